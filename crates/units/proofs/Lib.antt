@@ -1,0 +1,5 @@
+pub mod Integers
+pub mod Word
+pub mod Balance
+pub mod Floor
+pub mod Sums
