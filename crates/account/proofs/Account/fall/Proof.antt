@@ -1,0 +1,63 @@
+-- The four thresholds are struck in their order, each by its own test, and the codes of each stand behind those of the ones before.
+use native.Mathlib.Omega.{arith}
+use borrow.Author.Needs.{needs}
+use Rattle.account.specs.Codes.{noteAll}
+use Rattle.account.specs.Fall.{marks, fallValve, fallCodes}
+use Rattle.account.proofs.Notes.{note-append}
+use Rattle.account.proofs.Account.fall.Statement.{statement}
+use Rattle.account.proofs.Account.fall.Tie as tie
+
+yuan-requires : tie.Need-yuan-requires
+yuan-requires c κs = search needs
+
+yuan-requires-2 : tie.Need-yuan-requires-2
+yuan-requires-2 c κs = search needs
+
+crosses-requires : tie.Need-crosses-requires
+crosses-requires c κs = rw (c .before .yuan .ensures) (omega arith)
+
+strike-requires : tie.Need-strike-requires
+strike-requires c κs = search needs
+
+crosses-requires-2 : tie.Need-crosses-requires-2
+crosses-requires-2 c κs = rw (c .before .before .yuan2 .ensures) (omega arith)
+
+strike-requires-2 : tie.Need-strike-requires-2
+strike-requires-2 c κs = search needs
+
+crosses-requires-3 : tie.Need-crosses-requires-3
+crosses-requires-3 c κs = search needs
+
+strike-requires-3 : tie.Need-strike-requires-3
+strike-requires-3 c κs = search needs
+
+sinks-requires : tie.Need-sinks-requires
+sinks-requires c κs = search needs
+
+strike-requires-4 : tie.Need-strike-requires-4
+strike-requires-4 c κs = search needs
+
+returns : tie.Need-returns
+unfolding fallValve fallCodes marks noteAll
+returns c =
+    let d = c .before .before in
+    let e = d .before .before in
+    let f = e .before .before in
+    rw (c .strike4 .ensures, c .before .sinks .ensures, d .strike3 .ensures, d .before .crosses3 .ensures, e .strike2 .ensures, e .before .crosses2 .ensures, f .strike .ensures, f .before .crosses .ensures, f .before .before .yuan2 .ensures, f .before .before .before .yuan .ensures)
+    (simp (← note-append))
+
+pub fall-spec : {M : Type 1} → statement M
+fall-spec =
+    tie.close
+    (tie.spec
+    yuan-requires
+    yuan-requires-2
+    crosses-requires
+    strike-requires
+    crosses-requires-2
+    strike-requires-2
+    crosses-requires-3
+    strike-requires-3
+    sinks-requires
+    strike-requires-4
+    returns)

@@ -1,0 +1,45 @@
+-- Document 01: balance, last serial and alarms. "Recharge (ten-thousandths and a serial)", "Alarms (whole yuan)", and their bounds.
+use mathlib.Core.Bool.{Bool, not, _&&_}
+use Prim.Native.Nat.{ℕ, _+_}
+use lib.Dec.{leb, ltb, eqb}
+use Rattle.units.specs.Volume.{price}
+use Rattle.units.specs.Money.{inMillionths, credited, debited, takes, inBounds}
+use Rattle.answer.specs.declared.Answer.{Answer}
+use Rattle.answer.specs.declared.Answer.the-variants.{Accepted}
+use Rattle.answer.specs.Answer.{need}
+use Rattle.account.specs.declared.Account.{Account}
+
+-- "15, serial 0 or above 65,535; 16, the last serial again; 17, below it; 18, more than one above; 19, amount 0; 20, balance would
+-- pass 999,999.99 yuan"
+unfoldable pub rechargeRefusal : Account → ℕ → ℕ → Answer
+rechargeRefusal a amount serial =
+    need (leb 1 serial && leb serial 65535) 15
+    (need (not (eqb serial (a .serial))) 16
+    (need (leb (a .serial) serial) 17
+    (need (leb serial (a .serial + 1)) 18
+    (need (leb 1 amount) 19
+    (need (takes (a .balance) (price amount)) 20 Accepted)))))
+
+-- "Recharge: balance grows"
+abbrev pub recharged : Account → ℕ → ℕ → Account
+recharged a amount serial = record {
+  balance = credited (a .balance) (inMillionths amount);
+  serial = serial;
+  one = a .one;
+  two = a .two;
+}
+
+-- "23, unless 0 < alarm 2 < alarm 1 and alarm 1 at most 999,999"
+unfoldable pub alarmsGood : ℕ → ℕ → Bool
+alarmsGood one two = ltb 0 two && (ltb two one && leb one 999999)
+
+abbrev pub alarmed : Account → ℕ → ℕ → Account
+alarmed a one two = record { balance = a .balance; serial = a .serial; one = one; two = two }
+
+-- "the balance falls by"
+abbrev pub charged : Account → ℕ → Account
+charged a cost = record { balance = debited (a .balance) cost; serial = a .serial; one = a .one; two = a .two }
+
+-- "last serial, alarms .. are as the refusals allow", and the balance in its bounds
+unfoldable pub accountGood : Account → ℕ → Bool
+accountGood a total = leb (a .serial) 65535 && (alarmsGood (a .one) (a .two) && inBounds (a .balance .0) total)

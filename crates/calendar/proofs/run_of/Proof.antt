@@ -1,0 +1,48 @@
+-- Before the first day the run is 0; from it on the days since are shared out, and day numbers do not fall.
+use Prim.Native.Nat.{_-_}
+use native.Mathlib.Nat.{div-le-self}
+use native.Mathlib.Omega.{arith}
+use Rattle.calendar.proofs.Days.{number-keeps, number-bound}
+use Rattle.calendar.proofs.Cycles.{run-before, run-from}
+use borrow.Author.Needs.{needs}
+use Rattle.calendar.proofs.run_of.Statement.{statement}
+use Rattle.calendar.proofs.run_of.Tie as tie
+
+returns : tie.Need-returns
+returns c = rw (run-before _ _ _ (c .if1 .taken))
+
+day-number-requires : tie.Need-day-number-requires
+day-number-requires c κs = search needs
+
+day-number-requires-2 : tie.Need-day-number-requires-2
+day-number-requires-2 c κs = search needs
+
+sub-result : tie.Need-sub-result
+sub-result c =
+    let s = c .before .before .before in
+    omega (arith, number-keeps (s .args .first) (s .args .d) (s .pre .0) (s .pre .1 .0) (c .before .before .if1 .left))
+
+div-result : tie.Need-div-result
+div-result c = search needs
+
+add-result : tie.Need-add-result
+add-result c =
+    let s = c .before .before .before in
+    let since = c .before .day-number .result - c .day-number2 .result in
+    omega (arith, number-bound (s .args .d) (s .pre .1 .0), div-le-self since (s .args .n))
+
+returns-2 : tie.Need-returns-2
+returns-2 c =
+    rw (run-from _ _ _ (c .before .before .if1 .left), c .before .day-number .ensures, c .day-number2 .ensures)
+
+pub run-of-spec : {M : Type 1} → statement M
+run-of-spec =
+    tie.close
+    (tie.spec
+    returns
+    day-number-requires
+    day-number-requires-2
+    sub-result
+    div-result
+    add-result
+    returns-2)

@@ -1,0 +1,19 @@
+-- The sum is the definition, and no larger than the date and a little.
+use mathlib.Core.Path.{refl}
+use Rattle.calendar.specs.Cycle.{yearStart}
+use borrow.Author.Needs.{needs}
+use Rattle.calendar.proofs.year_start.Statement.{statement}
+use Rattle.calendar.proofs.year_start.Tie as tie
+
+mul-result : tie.Need-mul-result
+mul-result c = search needs
+
+add-result : tie.Need-add-result
+add-result c = search needs
+
+returns : tie.Need-returns
+unfolding yearStart
+returns c = refl
+
+pub year-start-spec : {M : Type 1} → statement M
+year-start-spec = tie.close (tie.spec mul-result add-result returns)

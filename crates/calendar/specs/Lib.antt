@@ -1,0 +1,4 @@
+pub mod Date
+pub mod Stamp
+pub mod DayNumber
+pub mod Cycle

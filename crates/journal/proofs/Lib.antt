@@ -1,0 +1,5 @@
+pub mod Good
+pub mod Walk
+pub mod Parts
+pub mod Room
+pub mod Kept

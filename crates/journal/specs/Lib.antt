@@ -1,0 +1,4 @@
+pub mod Records
+pub mod Turn
+pub mod Bounds
+pub mod Queries

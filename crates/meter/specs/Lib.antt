@@ -1,0 +1,8 @@
+pub mod Meter
+pub mod Bounds
+pub mod Turn
+pub mod Call
+pub mod Refusals
+pub mod Effects
+pub mod Machine
+pub mod Queries

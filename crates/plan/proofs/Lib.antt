@@ -1,0 +1,10 @@
+pub mod Charge
+pub mod Cycles
+pub mod Every
+pub mod Flags
+pub mod Force
+pub mod Good
+pub mod Priced
+pub mod Sums
+pub mod Tidy
+pub mod Walk

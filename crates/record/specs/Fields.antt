@@ -1,0 +1,42 @@
+-- Document 01, "Plan record (Table C.1)": "Always 66 bytes ..: start 4, end 4, steps 1, cycle word 1, first extra field 4, second extra
+-- field 4, then six pairs of volume 4 and price 4."
+use mathlib.Core.Bool.{Bool, true, cond, not, _||_}
+use mathlib.Core.List.{List, [], _∷_, _++_}
+use Prim.Native.Nat.{ℕ, _+_, _-_, _*_, _/_, _%_}
+use lib.Dec.{ltb, eqb}
+use lib.ListN.{getD}
+use Rattle.units.specs.Volume.{volume, price}
+use Rattle.plan.specs.declared.Plan.{Plan}
+use Rattle.plan.specs.Plan.{widthAt, priceAt, cycleWord, hasExtra}
+use Rattle.record.specs.Digits.{quadAt, fourBytes}
+
+-- the fields of a record as it stands, read or not
+unfoldable pub fieldsOf : List ℕ → Plan
+fieldsOf s = record {
+  start = quadAt s 0;
+  end = quadAt s 4;
+  steps = getD s 8 0;
+  word = getD s 9 0;
+  first = quadAt s 10;
+  second = quadAt s 14;
+  widths = volume (quadAt s 18) ∷ volume (quadAt s 26) ∷ volume (quadAt s 34) ∷ volume (quadAt s 42) ∷ volume (quadAt s 50) ∷ volume (quadAt s 58) ∷ [];
+  prices = price (quadAt s 22) ∷ price (quadAt s 30) ∷ price (quadAt s 38) ∷ price (quadAt s 46) ∷ price (quadAt s 54) ∷ price (quadAt s 62) ∷ [];
+}
+
+-- pair i in bytes: volume 4, price 4
+abbrev pub pairBytes : Plan → ℕ → List ℕ
+pairBytes p i = fourBytes (widthAt p i) ++ fourBytes (priceAt p i)
+
+-- a plan in bytes, every field of it
+unfoldable pub bytesOf : Plan → List ℕ
+bytesOf p =
+    fourBytes (p .start) ++ (fourBytes (p .end) ++ (p .steps ∷ p .word ∷ (fourBytes (p .first) ++ (fourBytes (p .second)
+    ++ (pairBytes p 0 ++ (pairBytes p 1 ++ (pairBytes p 2 ++ (pairBytes p 3 ++ (pairBytes p 4 ++ pairBytes p 5)))))))))
+
+-- whether byte i of a record is read, for a plan with its fields: dates and steps always; the cycle word with two steps or more; the
+-- extra fields with words 04 and 05; pair k below n
+unfoldable pub byteRead : Plan → ℕ → Bool
+byteRead p i =
+    cond (ltb i 9) true
+    (cond (ltb i 10) (not (ltb (p .steps) 2))
+    (cond (ltb i 18) (hasExtra p) (ltb ((i - 18) / 8) (p .steps))))

@@ -1,0 +1,291 @@
+// Document 01, "Plan record (Table C.1)", "Read a plan", "Write a plan" and the query "record in
+// force": 66 bytes, two decimal digits a byte, high digit first.
+use answer::Answer;
+use plan::Plan;
+use units::Hundredths;
+use units::TenThousandths;
+ghost use mathlib.Core.Path.{_≡_};
+ghost use Prim.Native.Nat.{_+_, _≤_, _<_};
+ghost use lib.ListN.{length, getD};
+ghost use Rattle.record.specs.Digits.{pairOf, byteOf, twoDigits, numberOf, quadOf, quadAt, fourBytes};
+ghost use Rattle.record.specs.Fields.{fieldsOf, pairBytes, bytesOf};
+ghost use Rattle.record.specs.Record.{readingOf, readOf, writeAnswer, written};
+ghost use Rattle.record.specs.Choice.{which, choiceOf, partOf, numberOf as refusalOf, handed};
+
+// A plan that was read, all zero where it is refused.
+pub struct Reading {
+    pub plan: Plan,
+    pub answer: Answer,
+}
+
+// Which of two records is in force on a date, or the refusal's number.
+pub enum Choice {
+    First,
+    Second,
+    Refused(u8),
+}
+
+// The number of a byte's two digits.
+fn pair(b: u8) -> u32
+    ensures { λ r. ⌜ r ≡ pairOf b ⌝ }
+{
+    (b as u32) / 16 * 10 + (b as u32) % 16
+}
+
+// Whether neither digit is above 9.
+fn two_digits(b: u8) -> bool
+    ensures { λ r. ⌜ r ≡ twoDigits b ⌝ }
+{
+    b / 16 < 10 && b % 16 < 10
+}
+
+// The number of four bytes.
+fn number(a: u8, b: u8, c: u8, d: u8) -> u32
+    ensures { λ r. ⌜ r ≡ numberOf a b c d ⌝ }
+{
+    ((pair(a) * 100 + pair(b)) * 100 + pair(c)) * 100 + pair(d)
+}
+
+// The field of four bytes: its number, or 100,000,000 where a digit is above 9.
+fn quad(a: u8, b: u8, c: u8, d: u8) -> u32
+    ensures { λ r. ⌜ r ≡ quadOf a b c d ⌝ }
+{
+    if two_digits(a) {
+        if two_digits(b) {
+            if two_digits(c) {
+                if two_digits(d) {
+                    return number(a, b, c, d);
+                }
+            }
+        }
+    }
+    100_000_000
+}
+
+// The field that begins at byte `at`.
+fn quad_at(s: &[u8], at: usize) -> u32
+    requires { ⌜ at + 4 ≤ length (now s) ⌝ }
+    ensures { λ r. ⌜ r ≡ quadAt (now (s .entry)) at ⌝ }
+{
+    quad(s[at], s[at + 1], s[at + 2], s[at + 3])
+}
+
+// The fields of a record as it stands.
+fn fields_of(s: &[u8]) -> Plan
+    requires { ⌜ length (now s) ≡ 66 ⌝ }
+    ensures { λ r. ⌜ r ≡ fieldsOf (now (s .entry)) ⌝ }
+{
+    Plan {
+        start: quad_at(s, 0),
+        end: quad_at(s, 4),
+        steps: s[8],
+        word: s[9],
+        first: quad_at(s, 10),
+        second: quad_at(s, 14),
+        widths: [
+            Hundredths(quad_at(s, 18)),
+            Hundredths(quad_at(s, 26)),
+            Hundredths(quad_at(s, 34)),
+            Hundredths(quad_at(s, 42)),
+            Hundredths(quad_at(s, 50)),
+            Hundredths(quad_at(s, 58)),
+        ],
+        prices: [
+            TenThousandths(quad_at(s, 22) as u64),
+            TenThousandths(quad_at(s, 30) as u64),
+            TenThousandths(quad_at(s, 38) as u64),
+            TenThousandths(quad_at(s, 46) as u64),
+            TenThousandths(quad_at(s, 54) as u64),
+            TenThousandths(quad_at(s, 62) as u64),
+        ],
+    }
+}
+
+// The plan's read fields where the answer accepts, no plan where it refuses.
+fn answered(p: Plan, a: Answer) -> Reading
+    ensures { λ r. ⌜ r ≡ readingOf p a ⌝ }
+{
+    if a.accepted() {
+        return Reading {
+            plan: p.tidy(),
+            answer: a,
+        };
+    }
+    Reading {
+        plan: Plan::none(),
+        answer: a,
+    }
+}
+
+// Reads a plan from a lent slice of any length: the plan, or 1 to 7.
+pub fn read(s: &[u8]) -> Reading
+    ensures { λ r. ⌜ r ≡ readOf (now (s .entry)) ⌝ }
+{
+    if s.len() != 66 {
+        return answered(Plan::none(), Answer::Refused(1));
+    }
+    let p = fields_of(s);
+    answered(p, p.vet())
+}
+
+// The byte of a number's two digits.
+fn bcd(x: u64) -> u8
+    requires { ⌜ x < 100 ⌝ }
+    ensures { λ r. ⌜ r ≡ byteOf x ⌝ }
+{
+    (x / 10 * 16 + x % 10) as u8
+}
+
+// Byte k of the four that a number is written in.
+fn quad_byte(x: u64, k: usize) -> u8
+    requires { ⌜ k < 4 ⌝ }
+    ensures { λ r. ⌜ r ≡ getD (fourBytes x) k 0 ⌝ }
+{
+    if k < 1 {
+        return bcd(x / 1_000_000 % 100);
+    }
+    if k < 2 {
+        return bcd(x / 10_000 % 100);
+    }
+    if k < 3 {
+        return bcd(x / 100 % 100);
+    }
+    bcd(x % 100)
+}
+
+// Byte k of the eight of pair i.
+fn pair_byte(p: Plan, i: usize, k: usize) -> u8
+    requires { ⌜ (i < 6) × (k < 8) ⌝ }
+    ensures { λ r. ⌜ r ≡ getD (pairBytes p i) k 0 ⌝ }
+{
+    let width = p.widths[i];
+    let price = p.prices[i];
+    if k < 4 {
+        return quad_byte(width.0 as u64, k);
+    }
+    quad_byte(price.0, k - 4)
+}
+
+// Byte i of a plan's record.
+fn byte_at(p: Plan, i: usize) -> u8
+    requires { ⌜ i < 66 ⌝ }
+    ensures { λ r. ⌜ r ≡ getD (bytesOf p) i 0 ⌝ }
+{
+    if i < 4 {
+        return quad_byte(p.start as u64, i);
+    }
+    if i < 8 {
+        return quad_byte(p.end as u64, i - 4);
+    }
+    if i < 9 {
+        return p.steps;
+    }
+    if i < 10 {
+        return p.word;
+    }
+    if i < 14 {
+        return quad_byte(p.first as u64, i - 10);
+    }
+    if i < 18 {
+        return quad_byte(p.second as u64, i - 14);
+    }
+    pair_byte(p, (i - 18) / 8, (i - 18) % 8)
+}
+
+// Fills a buffer with the bytes of a plan, every field of it.
+fn put(p: Plan, out: &mut [u8])
+    requires { ⌜ length (now out) ≡ 66 ⌝ }
+    ensures { λ _. ⌜ now (out .exit) ≡ bytesOf p ⌝ }
+{
+    let mut i = 0;
+    while i < 66 {
+        out[i] = byte_at(p, i);
+        i += 1;
+    }
+}
+
+// Writes a plan into a lent buffer: its read fields and zero elsewhere; or 26, then 2 to 7, and the
+// buffer stands as before.
+pub fn write(p: Plan, out: &mut [u8]) -> Answer
+    ensures { λ r. ⌜ (r ≡ writeAnswer p (now (out .entry))) × (now (out .exit) ≡ written p (now (out .entry))) ⌝ }
+{
+    if out.len() != 66 {
+        return Answer::Refused(26);
+    }
+    let a = p.vet();
+    if a.accepted() {
+        put(p.tidy(), out);
+        return a;
+    }
+    a
+}
+
+// The one of two that is in force; 12 where both are, 24 where neither is.
+fn which(one: bool, two: bool) -> Choice
+    ensures { λ r. ⌜ r ≡ which one two ⌝ }
+{
+    if one {
+        if two {
+            return Choice::Refused(12);
+        }
+        return Choice::First;
+    }
+    if two {
+        return Choice::Second;
+    }
+    Choice::Refused(24)
+}
+
+// Which of two lent records is in force on a date.
+pub fn choose<'a>(first: &'a [u8], second: &'a [u8], date: u32) -> Choice
+    ensures { λ r. ⌜ r ≡ choiceOf (now (first .entry)) (now (second .entry)) date ⌝ }
+{
+    if !calendar::is_date(date) {
+        return Choice::Refused(8);
+    }
+    let a = read(first);
+    let one = a.answer;
+    if let Answer::Refused(n) = one {
+        return Choice::Refused(n);
+    }
+    let b = read(second);
+    let two = b.answer;
+    if let Answer::Refused(n) = two {
+        return Choice::Refused(n);
+    }
+    which(a.plan.in_force(date), b.plan.in_force(date))
+}
+
+// The part that a choice hands back, an empty one on a refusal.
+pub fn pick<'a>(first: &'a [u8], second: &'a [u8], c: Choice) -> &'a [u8]
+    ensures { λ r. ⌜ (r ≡ handed c (first .entry) (second .entry) r) × (now r ≡ partOf c (now (first .entry)) (now (second .entry))) ⌝ }
+{
+    match c {
+        Choice::First => first,
+        Choice::Second => second,
+        Choice::Refused(_) => &first[0..0],
+    }
+}
+
+// The number of a refusal, 255 where there is none.
+fn refusal_of(c: Choice) -> u8
+    ensures { λ r. ⌜ r ≡ refusalOf c ⌝ }
+{
+    match c {
+        Choice::First => 255,
+        Choice::Second => 255,
+        Choice::Refused(n) => n,
+    }
+}
+
+// The record in force on a date; or an empty part, with the refusal's number in `refusal`, which is
+// 255 where there is none.
+pub fn in_force<'a>(first: &'a [u8], second: &'a [u8], date: u32, refusal: &mut u8) -> &'a [u8]
+    ensures { λ r. ⌜ (r ≡ handed (choiceOf (now (first .entry)) (now (second .entry)) date) (first .entry) (second .entry) r)
+        × (now r ≡ partOf (choiceOf (now (first .entry)) (now (second .entry)) date) (now (first .entry)) (now (second .entry)))
+        × (now (refusal .exit) ≡ refusalOf (choiceOf (now (first .entry)) (now (second .entry)) date)) ⌝ }
+{
+    let c = choose(first, second, date);
+    *refusal = refusal_of(c);
+    pick(first, second, c)
+}

@@ -1,0 +1,5 @@
+pub mod Answers
+pub mod Bounds
+pub mod Charge
+pub mod Reading
+pub mod Real

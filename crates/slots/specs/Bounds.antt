@@ -1,0 +1,20 @@
+-- Document 01, "Bounds of a meter": "loaded plans are as the refusals allow, no date from the clock's on has both plans in force",
+-- usage at most the total.
+use mathlib.Core.Bool.{Bool, true, cond, not, _&&_}
+use Prim.Native.Nat.{ℕ}
+use lib.Dec.{leb}
+use Rattle.slots.specs.declared.Slot.{Slot}
+use Rattle.slots.specs.declared.Slots.{Slots}
+use Rattle.slots.specs.World.{World}
+use Rattle.slots.specs.Load.{meetsSlot}
+
+unfoldable pub slotGood : World → Slot → Bool
+slotGood w s = cond (s .loaded) (w .good (s .plan)) true
+
+-- no date from d on has both plans in force
+unfoldable pub apart : World → Slot → Slot → ℕ → Bool
+apart w a b d = not (b .loaded && meetsSlot w a (b .plan) d)
+
+unfoldable pub slotsGood : World → Slots → ℕ → ℕ → Bool
+slotsGood w s d total =
+    slotGood w (s .one) && (slotGood w (s .two) && (apart w (s .one) (s .two) d && leb (s .usage .0) total))
