@@ -2,6 +2,8 @@
 use mathlib.Core.Bool.{Bool, not, _&&_}
 use Prim.Native.Nat.{ℕ, _+_}
 use lib.Dec.{leb, ltb, eqb}
+use lib.IntN.{pos}
+use lib.Signed.{leZ, ltZ}
 use Rattle.units.specs.Volume.{price}
 use Rattle.units.specs.Money.{inMillionths, credited, debited, takes, inBounds}
 use Rattle.answer.specs.declared.Answer.{Answer}
@@ -43,3 +45,8 @@ charged a cost = record { balance = debited (a .balance) cost; serial = a .seria
 -- "last serial, alarms .. are as the refusals allow", and the balance in its bounds
 unfoldable pub accountGood : Account → ℕ → Bool
 accountGood a total = leb (a .serial) 65535 && (alarmsGood (a .one) (a .two) && inBounds (a .balance .0) total)
+
+-- of a fresh meter: balance 0, no serial yet, alarms 20 and 5 yuan
+unfoldable pub freshAccount : Account → Bool
+freshAccount a =
+    leZ (a .balance .0) (pos 0) && (not (ltZ (a .balance .0) (pos 0)) && (eqb (a .serial) 0 && (eqb (a .one) 20 && eqb (a .two) 5)))

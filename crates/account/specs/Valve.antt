@@ -30,3 +30,7 @@ commandCodes v allow = 0x2B ∷ cond (v .opened && not allow) (closing ∷ []) [
 -- "Key: a closed valve opens, code 11; an open one stays, no code."
 unfoldable pub keyCodes : Valve → List ℕ
 keyCodes v = cond (v .opened) [] (0x11 ∷ [])
+
+-- of a fresh meter: mark "allow", valve closed
+unfoldable pub freshValve : Valve → Bool
+freshValve v = v .allow && not (v .opened)

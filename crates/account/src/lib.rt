@@ -11,8 +11,8 @@ ghost use lib.IntN.{pos};
 ghost use lib.Signed.{leZ, ltZ};
 ghost use Rattle.units.specs.Money.{Small};
 ghost use Rattle.account.specs.Codes.{noCodes, noted, noteAll};
-ghost use Rattle.account.specs.Valve.{valveSet, valveKept, expiryCodes, commanded, commandCodes, keyCodes};
-ghost use Rattle.account.specs.Account.{rechargeRefusal, recharged, alarmsGood, alarmed, charged, accountGood};
+ghost use Rattle.account.specs.Valve.{valveSet, valveKept, expiryCodes, commanded, commandCodes, keyCodes, freshValve};
+ghost use Rattle.account.specs.Account.{rechargeRefusal, recharged, alarmsGood, alarmed, charged, accountGood, freshAccount};
 ghost use Rattle.account.specs.Fall.{struck, fallOf};
 
 // The balance, the last accepted serial (0 before the first), and the two alarms in whole yuan.
@@ -86,6 +86,13 @@ impl Codes {
 }
 
 impl Valve {
+    // Mark "allow" and closed.
+    pub fn is_fresh(self) -> bool
+        ensures { λ r. ⌜ r ≡ freshValve self ⌝ }
+    {
+        self.allow && !self.opened
+    }
+
     pub fn set(self, opened: bool) -> Valve
         ensures { λ r. ⌜ r ≡ valveSet self opened ⌝ }
     {
@@ -195,6 +202,15 @@ pub fn alarms_good(one: u32, two: u32) -> bool
 }
 
 impl Account {
+    // Balance 0, no serial yet, alarms 20 and 5 yuan.
+    pub fn is_fresh(self) -> bool
+        ensures { λ r. ⌜ r ≡ freshAccount self ⌝ }
+    {
+        let b = self.balance;
+        b.at_or_below(Charge(0))
+            && (!b.negative() && (self.serial == 0 && (self.one == 20 && self.two == 5)))
+    }
+
     // The bounds of an account that a host hands in.
     pub fn is_good(self, total: Hundredths) -> bool
         ensures { λ r. ⌜ r ≡ accountGood self (total .0) ⌝ }

@@ -3,7 +3,7 @@
 use mathlib.Core.Bool.{Bool, true, _&&_}
 use mathlib.Core.List.{List, [], _∷_}
 use Prim.Native.Nat.{ℕ}
-use lib.Dec.{leb}
+use lib.Dec.{leb, eqb}
 use Rattle.units.specs.Volume.{chargeInBounds}
 use Rattle.units.specs.Money.{inBounds}
 use Rattle.journal.specs.declared.Record.{Record}
@@ -32,3 +32,10 @@ monthsGood total m = leb (m .count) monthLimit && recordsGood total (heldMonths 
 unfoldable pub journalGood : ℕ → Journal → Bool
 journalGood total j =
     tallyGood total (j .day) && (tallyGood total (j .month) && (daysGood total (j .days) && monthsGood total (j .months)))
+
+-- of a fresh meter: nothing in the open day and month, no record held
+abbrev pub freshTally : Tally → Bool
+freshTally t = eqb (t .volume .0) 0 && eqb (t .charge .0) 0
+
+unfoldable pub freshJournal : Journal → Bool
+freshJournal j = freshTally (j .day) && (freshTally (j .month) && (eqb (j .days .count) 0 && eqb (j .months .count) 0))

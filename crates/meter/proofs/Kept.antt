@@ -16,10 +16,11 @@ use Rattle.answer.proofs.Tests.{cases, never, and-left, and-right, both, and-fa
 use Rattle.calendar.specs.declared.Stamp.{Stamp}
 use Rattle.calendar.specs.Stamp.{notBefore}
 use Rattle.calendar.proofs.Stamps.{not-before-date}
-use Rattle.account.specs.Account.{alarmsGood, rechargeRefusal, accountGood}
+use Rattle.account.specs.Account.{alarmsGood, rechargeRefusal, accountGood, freshAccount}
+use Rattle.account.specs.Valve.{freshValve}
 use Rattle.account.specs.Fall.{Mark, marks, valveAfter, fallValve}
 use Rattle.account.proofs.Kept.{account-room, charged-good, recharged-good, alarmed-good}
-use Rattle.journal.specs.Bounds.{journalGood}
+use Rattle.journal.specs.Bounds.{journalGood, freshJournal}
 use Rattle.journal.proofs.Kept.{turned-good, counted-good}
 use Rattle.plan.specs.declared.Plan.{Plan}
 use Rattle.record.specs.declared.Reading.{Reading}
@@ -30,11 +31,11 @@ use Rattle.slots.specs.World.{World}
 use Rattle.slots.specs.Laws.{Laws}
 use Rattle.slots.specs.Slots.{inSlot, someForce, chargeOn, fee, used, keeps, slotsTurned}
 use Rattle.slots.specs.Load.{slotAt, otherAt, holding, meetsSlot, loadRefusal, loaded}
-use Rattle.slots.specs.Bounds.{slotGood, apart, slotsGood}
+use Rattle.slots.specs.Bounds.{slotGood, apart, slotsGood, idleGood, freshSlots}
 use Rattle.meter.specs.declared.Volumes.{Volumes}
 use Rattle.meter.specs.declared.Meter.{Meter}
 use Rattle.meter.specs.Meter.{fresh}
-use Rattle.meter.specs.Bounds.{stampGood, noClock, volumesGood, idleGood, stateGood, bounded, isFresh, freshAccount, freshSlots, freshVolumes, freshValve, freshJournal}
+use Rattle.meter.specs.Bounds.{stampGood, noClock, volumesGood, stateGood, bounded, isFresh, freshVolumes}
 use Rattle.meter.specs.Turn.{turnedTo, turn}
 use Rattle.meter.specs.Call.{Call, pulses, recharge, load, alarms, command, key, tick, stampOf}
 use Rattle.meter.specs.Refusals.{stampRefusal, pulseRefusal, keyAllowed, ownRefusal, refusalOf}
@@ -79,13 +80,13 @@ module _ (w : World) (L : Laws w) where
       )
 
   idle-out : (m : Meter) → (someForce w (m .slots) (m .clock .date) ≡ false → (m .slots .usage .0 ≡ 0) × (m .valve .opened ≡ false)) →
-      idleGood w (m .slots) (m .valve) (m .clock .date) ≡ true
+      idleGood w (m .slots) (m .valve .opened) (m .clock .date) ≡ true
   unfolding idleGood
   idle-out m h = cases (someForce w (m .slots) (m .clock .date))
       (λ t. rw t)
       (λ t. rw (t, eq-eqb (m .slots .usage .0) 0 (h t .0), h t .1))
 
-  total-in : (v : Volumes) → volumesGood v ≡ true → (v .total .0 ≤ highestTotal) × (v .unpriced .0 ≤ v .total .0)
+  pub total-in : (v : Volumes) → volumesGood v ≡ true → (v .total .0 ≤ highestTotal) × (v .unpriced .0 ≤ v .total .0)
   unfolding volumesGood
   total-in v h = (
     leb-true (v .total .0) highestTotal (and-left (leb (v .total .0) highestTotal) (leb (v .unpriced .0) (v .total .0)) h),
@@ -161,7 +162,7 @@ module _ (w : World) (L : Laws w) where
         account = i .account;
         slots = subst (λ (d : ℕ). slotsGood w (m .slots) d (m .volumes .total .0) ≡ true) q (i .slots);
         journal = i .journal;
-        idle = subst (λ (d : ℕ). idleGood w (m .slots) (m .valve) d ≡ true) q (i .idle);
+        idle = subst (λ (d : ℕ). idleGood w (m .slots) (m .valve .opened) d ≡ true) q (i .idle);
       }))
 
   -- what the turn leaves

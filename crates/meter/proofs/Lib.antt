@@ -1,2 +1,4 @@
 pub mod State
 pub mod Kept
+pub mod Outcomes
+pub mod Rooms

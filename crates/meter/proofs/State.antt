@@ -17,19 +17,20 @@ use Rattle.answer.proofs.Tests.{cases, never, and-left, and-right, both, not-tr
 use Rattle.calendar.specs.declared.Stamp.{Stamp}
 use Rattle.account.specs.declared.Account.{Account}
 use Rattle.account.specs.declared.Valve.{Valve}
-use Rattle.account.specs.Account.{alarmsGood, accountGood}
+use Rattle.account.specs.Account.{alarmsGood, accountGood, freshAccount}
+use Rattle.account.specs.Valve.{freshValve}
 use Rattle.journal.specs.declared.Record.{Record}
 use Rattle.journal.specs.declared.Tally.{Tally}
 use Rattle.journal.specs.declared.Journal.{Journal}
-use Rattle.journal.specs.Bounds.{recordsGood, tallyGood, daysGood, monthsGood, journalGood}
+use Rattle.journal.specs.Bounds.{recordsGood, tallyGood, daysGood, monthsGood, journalGood, freshTally, freshJournal}
 use Rattle.slots.specs.declared.Slots.{Slots}
 use Rattle.slots.specs.World.{World}
 use Rattle.slots.specs.Laws.{Laws}
 use Rattle.slots.specs.Slots.{inSlot, someForce}
-use Rattle.slots.specs.Bounds.{slotGood, apart, slotsGood}
+use Rattle.slots.specs.Bounds.{slotGood, apart, slotsGood, idleGood, freshSlots}
 use Rattle.meter.specs.declared.Volumes.{Volumes}
 use Rattle.meter.specs.declared.Meter.{Meter}
-use Rattle.meter.specs.Bounds.{stampGood, noClock, freshAccount, freshSlots, freshVolumes, freshValve, freshTally, freshJournal, isFresh, volumesGood, idleGood, stateGood, bounded}
+use Rattle.meter.specs.Bounds.{stampGood, noClock, freshVolumes, isFresh, volumesGood, stateGood, bounded}
 
 module _ (w : World) (L : Laws w) where
   -- the parts of `stateGood`
@@ -38,13 +39,13 @@ module _ (w : World) (L : Laws w) where
     pub account : accountGood (m .account) (m .volumes .total .0) ≡ true
     pub slots : slotsGood w (m .slots) (m .clock .date) (m .volumes .total .0) ≡ true
     pub journal : journalGood (m .volumes .total .0) (m .journal) ≡ true
-    pub idle : idleGood w (m .slots) (m .valve) (m .clock .date) ≡ true
+    pub idle : idleGood w (m .slots) (m .valve .opened) (m .clock .date) ≡ true
 
   pub state-in : (m : Meter) → stateGood w m ≡ true → State m
   unfolding stateGood
   state-in m h =
       let t = m .volumes .total .0 in
-      let e4 = idleGood w (m .slots) (m .valve) (m .clock .date) in
+      let e4 = idleGood w (m .slots) (m .valve .opened) (m .clock .date) in
       let e3 = journalGood t (m .journal) && e4 in
       let e2 = slotsGood w (m .slots) (m .clock .date) t && e3 in
       let e1 = accountGood (m .account) t && e2 in
@@ -103,7 +104,7 @@ module _ (w : World) (L : Laws w) where
   unfolding slotsGood slotGood apart
   fresh-slots s d total h = let u = unloaded s h in rw (u .0, u .1, le-leb (s .usage .0) total (omega (arith, u .2)))
 
-  fresh-idle : (s : Slots) (v : Valve) (d : ℕ) → freshSlots s ≡ true → freshValve v ≡ true → idleGood w s v d ≡ true
+  fresh-idle : (s : Slots) (v : Valve) (d : ℕ) → freshSlots s ≡ true → freshValve v ≡ true → idleGood w s (v .opened) d ≡ true
   unfolding idleGood someForce inSlot freshValve
   fresh-idle s v d h k =
       let u = unloaded s h in

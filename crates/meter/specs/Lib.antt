@@ -5,4 +5,3 @@ pub mod Call
 pub mod Refusals
 pub mod Effects
 pub mod Machine
-pub mod Queries

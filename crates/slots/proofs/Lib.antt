@@ -1,5 +1,4 @@
 pub mod Answers
 pub mod Bounds
 pub mod Charge
-pub mod Reading
 pub mod Real

@@ -1,12 +1,13 @@
 -- Document 01, "Bounds of a meter": "loaded plans are as the refusals allow, no date from the clock's on has both plans in force",
 -- usage at most the total.
-use mathlib.Core.Bool.{Bool, true, cond, not, _&&_}
+use mathlib.Core.Bool.{Bool, true, cond, not, _&&_, _||_}
 use Prim.Native.Nat.{ℕ}
-use lib.Dec.{leb}
+use lib.Dec.{leb, eqb}
 use Rattle.slots.specs.declared.Slot.{Slot}
 use Rattle.slots.specs.declared.Slots.{Slots}
 use Rattle.slots.specs.World.{World}
 use Rattle.slots.specs.Load.{meetsSlot}
+use Rattle.slots.specs.Slots.{someForce}
 
 unfoldable pub slotGood : World → Slot → Bool
 slotGood w s = cond (s .loaded) (w .good (s .plan)) true
@@ -18,3 +19,11 @@ apart w a b d = not (b .loaded && meetsSlot w a (b .plan) d)
 unfoldable pub slotsGood : World → Slots → ℕ → ℕ → Bool
 slotsGood w s d total =
     slotGood w (s .one) && (slotGood w (s .two) && (apart w (s .one) (s .two) d && leb (s .usage .0) total))
+
+-- "usage 0 and valve closed with no plan in force on the clock's date"
+unfoldable pub idleGood : World → Slots → Bool → ℕ → Bool
+idleGood w s opened d = someForce w s d || (eqb (s .usage .0) 0 && not opened)
+
+-- of a fresh meter: no plan, usage 0
+unfoldable pub freshSlots : Slots → Bool
+freshSlots s = not (s .one .loaded) && (not (s .two .loaded) && eqb (s .usage .0) 0)

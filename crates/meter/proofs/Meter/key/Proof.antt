@@ -1,0 +1,85 @@
+-- The refusals in their order, then the turn, then the valve opens.
+use mathlib.Core.Path.{_≡_, refl, sym, ap, _∙_}
+use Rattle.account.specs.Codes.{noteAll}
+use Rattle.answer.specs.declared.Answer.the-variants.{Accepted}
+use Rattle.slots.specs.World.{real}
+use Rattle.meter.specs.Machine.{declinedOf, deniedOf}
+use Rattle.meter.specs.Call.{key as call}
+use Rattle.meter.specs.Refusals.{stampRefusal, ownRefusal}
+use Rattle.meter.specs.Effects.{effectOf, codesOf}
+use Rattle.meter.proofs.Outcomes.{not-admitted, admitted, own-refused, accepts, admitted-bounds}
+use borrow.Author.Tests.{not-true, not-false}
+use borrow.Author.Needs.{needs}
+use Rattle.meter.proofs.Meter.key.Statement.{statement}
+use Rattle.meter.proofs.Meter.key.Tie as tie
+
+admit-requires : tie.Need-admit-requires
+admit-requires c κs = search needs
+
+enum-known-d : tie.Need-enum-known-d
+enum-known-d c = search needs
+
+enum-told : tie.Need-enum-told
+enum-told c = search needs
+
+declined-requires : tie.Need-declined-requires
+declined-requires c κs = search needs
+
+returns : tie.Need-returns
+returns c = c .declined .ensures ∙ ap (declinedOf (c .before .before .before .before .before .args .self)) (c .before .enum-told .given .1) ∙ sym (not-admitted (c .before .before .before .before .before .args .self) (call (c .before .before .before .before .before .args .p)) _ (sym (c .before .before .before .admit .ensures) ∙ c .before .enum-told .given .1))
+
+key-allowed-requires : tie.Need-key-allowed-requires
+key-allowed-requires c κs = search needs
+
+refused-requires : tie.Need-refused-requires
+refused-requires c κs = search needs
+
+returns-2 : tie.Need-returns-2
+unfolding ownRefusal
+returns-2 c =
+    let a : stampRefusal real (c .before .before .before .before .before .before .before .before .args .self) (c .before .before .before .before .before .before .before .before .args .p .stamp) ≡ Accepted = admitted (c .before .before .before .before .before .before .before .before .args .self) (c .before .before .before .before .before .before .before .before .args .p .stamp) _ (sym (c .before .before .before .before .before .before .admit .ensures) ∙ c .before .before .before .before .d .given .1) .0 in
+    let e = admitted (c .before .before .before .before .before .before .before .before .args .self) (c .before .before .before .before .before .before .before .before .args .p .stamp) _ (sym (c .before .before .before .before .before .before .admit .ensures) ∙ c .before .before .before .before .d .given .1) .1 in
+    c .refused .ensures ∙ sym (own-refused (c .before .before .before .before .before .before .before .before .args .self) (call (c .before .before .before .before .before .before .before .before .args .p)) 22 a (rw (← e, sym (c .before .before .key-allowed .ensures) ∙ not-true _ (c .before .if1 .taken))))
+
+turn-requires : tie.Need-turn-requires
+turn-requires c κs =
+    let a : stampRefusal real (c .before .before .before .before .before .before .before .args .self) (c .before .before .before .before .before .before .before .args .p .stamp) ≡ Accepted = admitted (c .before .before .before .before .before .before .before .args .self) (c .before .before .before .before .before .before .before .args .p .stamp) _ (sym (c .before .before .before .before .before .admit .ensures) ∙ c .before .before .before .d .given .1) .0 in
+    let b = admitted-bounds (c .before .before .before .before .before .before .before .args .self) (c .before .before .before .before .before .before .before .args .p .stamp) a in
+    (b .0, b .1)
+
+key-codes-requires : tie.Need-key-codes-requires
+key-codes-requires c κs = search needs
+
+set-requires : tie.Need-set-requires
+set-requires c κs = search needs
+
+accepted-requires : tie.Need-accepted-requires
+accepted-requires c κs = search needs
+
+returns-3 : tie.Need-returns-3
+unfolding ownRefusal effectOf codesOf
+returns-3 c =
+    let a : stampRefusal real (c .before .before .before .before .before .before .before .before .before .before .before .before .before .args .self) (c .before .before .before .before .before .before .before .before .before .before .before .before .before .args .p .stamp) ≡ Accepted = admitted (c .before .before .before .before .before .before .before .before .before .before .before .before .before .args .self) (c .before .before .before .before .before .before .before .before .before .before .before .before .before .args .p .stamp) _ (sym (c .before .before .before .before .before .before .before .before .before .before .before .admit .ensures) ∙ c .before .before .before .before .before .before .before .before .before .d .given .1) .0 in
+    let e = admitted (c .before .before .before .before .before .before .before .before .before .before .before .before .before .args .self) (c .before .before .before .before .before .before .before .before .before .before .before .before .before .args .p .stamp) _ (sym (c .before .before .before .before .before .before .before .before .before .before .before .admit .ensures) ∙ c .before .before .before .before .before .before .before .before .before .d .given .1) .1 in
+    c .accepted .ensures
+    ∙ accepts (c .before .before .before .before .before .before .before .before .before .before .before .before .before .args .self) (call (c .before .before .before .before .before .before .before .before .before .before .before .before .before .args .p)) a (rw (← e, sym (c .before .before .before .before .before .before .before .key-allowed .ensures) ∙ not-false _ (c .before .before .before .before .before .before .if1 .left)))
+    (rw (c .before .set .ensures, c .before .before .before .before .before .turn .ensures .0))
+    (rw (c .before .before .key-codes .ensures, c .before .before .before .before .before .turn .ensures .1, c .before .before .before .before .before .turn .ensures .0))
+
+pub key-spec : {M : Type 1} → statement M
+key-spec =
+    tie.close
+    (tie.spec
+    admit-requires
+    enum-known-d
+    enum-told
+    declined-requires
+    returns
+    key-allowed-requires
+    refused-requires
+    returns-2
+    turn-requires
+    key-codes-requires
+    set-requires
+    accepted-requires
+    returns-3)

@@ -1,0 +1,93 @@
+-- The refusals in their order, then the turn, then the pulses.
+use mathlib.Core.Path.{_≡_, refl, sym, ap, _∙_}
+use Rattle.account.specs.Codes.{noteAll}
+use Rattle.answer.specs.declared.Answer.the-variants.{Accepted}
+use Rattle.slots.specs.World.{real}
+use Rattle.meter.specs.Machine.{declinedOf, deniedOf}
+use Rattle.meter.specs.Call.{pulses as call}
+use Rattle.meter.specs.Refusals.{stampRefusal, ownRefusal}
+use Rattle.meter.specs.Effects.{effectOf, codesOf}
+use Rattle.meter.proofs.Outcomes.{not-admitted, admitted, own-refused, accepts, admitted-bounds}
+use Rattle.meter.proofs.Kept.{total-low}
+use Rattle.slots.proofs.Real.{real-laws}
+use Rattle.meter.proofs.Rooms.{state, turned-good, pulses-fit}
+use borrow.Author.Needs.{needs}
+use Rattle.meter.proofs.Meter.pulses.Statement.{statement}
+use Rattle.meter.proofs.Meter.pulses.Tie as tie
+
+admit-requires : tie.Need-admit-requires
+admit-requires c κs = search needs
+
+enum-told : tie.Need-enum-told
+enum-told c = search needs
+
+enum-told-2 : tie.Need-enum-told-2
+enum-told-2 c = search needs
+
+declined-requires : tie.Need-declined-requires
+declined-requires c κs = search needs
+
+returns : tie.Need-returns
+returns c = c .declined .ensures ∙ ap (declinedOf (c .before .before .before .before .before .args .self)) (c .before .enum-told2 .given .1) ∙ sym (not-admitted (c .before .before .before .before .before .args .self) (call (c .before .before .before .before .before .args .p)) _ (sym (c .before .before .before .admit .ensures) ∙ c .before .enum-told2 .given .1))
+
+vet-requires : tie.Need-vet-requires
+vet-requires c κs =
+    let a : stampRefusal real (c .before .before .before .before .before .before .args .self) (c .before .before .before .before .before .before .args .p .stamp) ≡ Accepted = admitted (c .before .before .before .before .before .before .args .self) (c .before .before .before .before .before .before .args .p .stamp) _ (sym (c .before .before .before .before .admit .ensures) ∙ c .before .before .enum-told .given .1) .0 in
+    total-low real real-laws (c .before .before .before .before .before .before .args .self) (state (c .before .before .before .before .before .before .args .self) (admitted-bounds (c .before .before .before .before .before .before .args .self) (c .before .before .before .before .before .before .args .p .stamp) a .0))
+
+enum-told-3 : tie.Need-enum-told-3
+enum-told-3 c = search needs
+
+enum-told-4 : tie.Need-enum-told-4
+enum-told-4 c = search needs
+
+denied-requires : tie.Need-denied-requires
+denied-requires c κs = search needs
+
+returns-2 : tie.Need-returns-2
+unfolding ownRefusal
+returns-2 c =
+    let a : stampRefusal real (c .before .before .before .before .before .before .before .before .before .before .args .self) (c .before .before .before .before .before .before .before .before .before .before .args .p .stamp) ≡ Accepted = admitted (c .before .before .before .before .before .before .before .before .before .before .args .self) (c .before .before .before .before .before .before .before .before .before .before .args .p .stamp) _ (sym (c .before .before .before .before .before .before .before .before .admit .ensures) ∙ c .before .before .before .before .before .before .enum-told .given .1) .0 in
+    c .denied .ensures ∙ ap (deniedOf (c .before .before .before .before .before .before .before .before .before .before .args .self)) (c .before .enum-told4 .given .1) ∙ sym (own-refused (c .before .before .before .before .before .before .before .before .before .before .args .self) (call (c .before .before .before .before .before .before .before .before .before .before .args .p)) _ a (sym (c .before .before .before .vet .ensures) ∙ c .before .enum-told4 .given .1))
+
+turn-requires : tie.Need-turn-requires
+turn-requires c κs =
+    let a : stampRefusal real (c .before .before .before .before .before .before .before .before .before .args .self) (c .before .before .before .before .before .before .before .before .before .args .p .stamp) ≡ Accepted = admitted (c .before .before .before .before .before .before .before .before .before .args .self) (c .before .before .before .before .before .before .before .before .before .args .p .stamp) _ (sym (c .before .before .before .before .before .before .before .admit .ensures) ∙ c .before .before .before .before .before .enum-told .given .1) .0 in
+    let b = admitted-bounds (c .before .before .before .before .before .before .before .before .before .args .self) (c .before .before .before .before .before .before .before .before .before .args .p .stamp) a in
+    (b .0, b .1)
+
+pulsed-requires : tie.Need-pulsed-requires
+pulsed-requires c κs =
+    let a : stampRefusal real (c .before .before .before .before .before .before .before .before .before .before .before .args .self) (c .before .before .before .before .before .before .before .before .before .before .before .args .p .stamp) ≡ Accepted = admitted (c .before .before .before .before .before .before .before .before .before .before .before .args .self) (c .before .before .before .before .before .before .before .before .before .before .before .args .p .stamp) _ (sym (c .before .before .before .before .before .before .before .before .before .admit .ensures) ∙ c .before .before .before .before .before .before .before .enum-told .given .1) .0 in
+    rw (c .before .turn .ensures .0) (turned-good (c .before .before .before .before .before .before .before .before .before .before .before .args .self) (c .before .before .before .before .before .before .before .before .before .before .before .args .p .stamp) a, pulses-fit (c .before .before .before .before .before .before .before .before .before .before .before .args .self) (c .before .before .before .before .before .before .before .before .before .before .before .args .p .stamp) (c .before .before .before .before .before .before .before .before .before .before .before .args .p .count .0) (sym (c .before .before .before .before .vet .ensures) ∙ c .before .before .enum-told3 .given .1))
+
+accepted-requires : tie.Need-accepted-requires
+accepted-requires c κs = search needs
+
+returns-3 : tie.Need-returns-3
+unfolding ownRefusal effectOf codesOf
+returns-3 c =
+    let a : stampRefusal real (c .before .before .before .before .before .before .before .before .before .before .before .before .before .before .args .self) (c .before .before .before .before .before .before .before .before .before .before .before .before .before .before .args .p .stamp) ≡ Accepted = admitted (c .before .before .before .before .before .before .before .before .before .before .before .before .before .before .args .self) (c .before .before .before .before .before .before .before .before .before .before .before .before .before .before .args .p .stamp) _ (sym (c .before .before .before .before .before .before .before .before .before .before .before .before .admit .ensures) ∙ c .before .before .before .before .before .before .before .before .before .before .enum-told .given .1) .0 in
+    c .accepted .ensures
+    ∙ accepts (c .before .before .before .before .before .before .before .before .before .before .before .before .before .before .args .self) (call (c .before .before .before .before .before .before .before .before .before .before .before .before .before .before .args .p)) a (sym (c .before .before .before .before .before .before .before .vet .ensures) ∙ c .before .before .before .before .before .enum-told3 .given .1)
+    (rw (c .before .before .pulsed .ensures .0, c .before .before .before .before .turn .ensures .0))
+    (rw (c .before .before .pulsed .ensures .1, c .before .before .before .before .turn .ensures .1, c .before .before .before .before .turn .ensures .0))
+
+pub pulses-spec : {M : Type 1} → statement M
+pulses-spec =
+    tie.close
+    (tie.spec
+    admit-requires
+    enum-told
+    enum-told-2
+    declined-requires
+    returns
+    vet-requires
+    enum-told-3
+    enum-told-4
+    denied-requires
+    returns-2
+    turn-requires
+    pulsed-requires
+    accepted-requires
+    returns-3)

@@ -1,0 +1,56 @@
+-- The clock only: the day turns, and nothing else.
+use mathlib.Core.Path.{_≡_, refl, sym, ap, _∙_}
+use Rattle.account.specs.Codes.{noteAll}
+use Rattle.answer.specs.declared.Answer.the-variants.{Accepted}
+use Rattle.slots.specs.World.{real}
+use Rattle.meter.specs.Machine.{declinedOf, deniedOf}
+use Rattle.meter.specs.Call.{tick as call}
+use Rattle.meter.specs.Refusals.{stampRefusal, ownRefusal}
+use Rattle.meter.specs.Effects.{effectOf, codesOf}
+use Rattle.meter.proofs.Outcomes.{not-admitted, admitted, own-refused, accepts, admitted-bounds}
+use borrow.Author.Needs.{needs}
+use Rattle.meter.proofs.Meter.tick.Statement.{statement}
+use Rattle.meter.proofs.Meter.tick.Tie as tie
+
+admit-requires : tie.Need-admit-requires
+admit-requires c κs = search needs
+
+enum-told : tie.Need-enum-told
+enum-told c = search needs
+
+enum-told-2 : tie.Need-enum-told-2
+enum-told-2 c = search needs
+
+declined-requires : tie.Need-declined-requires
+declined-requires c κs = search needs
+
+returns : tie.Need-returns
+returns c = c .declined .ensures ∙ ap (declinedOf (c .before .before .before .before .before .args .self)) (c .before .enum-told2 .given .1) ∙ sym (not-admitted (c .before .before .before .before .before .args .self) (call (c .before .before .before .before .before .args .p)) _ (sym (c .before .before .before .admit .ensures) ∙ c .before .enum-told2 .given .1))
+
+turn-requires : tie.Need-turn-requires
+turn-requires c κs =
+    let a : stampRefusal real (c .before .before .before .before .args .self) (c .before .before .before .before .args .p .stamp) ≡ Accepted = admitted (c .before .before .before .before .args .self) (c .before .before .before .before .args .p .stamp) _ (sym (c .before .before .admit .ensures) ∙ c .enum-told .given .1) .0 in
+    let b = admitted-bounds (c .before .before .before .before .args .self) (c .before .before .before .before .args .p .stamp) a in
+    (b .0, b .1)
+
+accepted-requires : tie.Need-accepted-requires
+accepted-requires c κs = search needs
+
+returns-2 : tie.Need-returns-2
+unfolding ownRefusal effectOf codesOf noteAll
+returns-2 c =
+    let a : stampRefusal real (c .before .before .before .before .before .before .before .args .self) (c .before .before .before .before .before .before .before .args .p .stamp) ≡ Accepted = admitted (c .before .before .before .before .before .before .before .args .self) (c .before .before .before .before .before .before .before .args .p .stamp) _ (sym (c .before .before .before .before .before .admit .ensures) ∙ c .before .before .before .enum-told .given .1) .0 in
+    c .accepted .ensures ∙ accepts (c .before .before .before .before .before .before .before .args .self) (call (c .before .before .before .before .before .before .before .args .p)) a refl (c .before .before .turn .ensures .0) (c .before .before .turn .ensures .1)
+
+pub tick-spec : {M : Type 1} → statement M
+tick-spec =
+    tie.close
+    (tie.spec
+    admit-requires
+    enum-told
+    enum-told-2
+    declined-requires
+    returns
+    turn-requires
+    accepted-requires
+    returns-2)

@@ -1,0 +1,96 @@
+-- Before record i the lines of those before it stand at the start of the buffer, at most 378 bytes each.
+use mathlib.Core.Path.{_≡_, refl}
+use Prim.Native.Nat.{_≤_, _-_, _*_}
+use native.Mathlib.Omega.{arith}
+use lib.ListN.{length, length-take, length-drop}
+use borrow.Rule.Slice.PartMut.{same-len-mid}
+use borrow.Author.Needs.{needs}
+use Rattle.text.proofs.Behind.{Put, nothing, text-behind}
+use Rattle.printer.specs.Line.{lineOf}
+use Rattle.printer.specs.Records.{recordsIn, recordAt, linesTo, linesOf}
+use Rattle.printer.proofs.Records.{record-begins, count-fits, no-lines, next-line}
+use Rattle.printer.proofs.lines.Statement.{statement}
+use Rattle.printer.proofs.lines.Tie as tie
+
+abbrev Inv-loop : tie.InvT-loop
+Inv-loop s out₀ count i₀ at₀ out i at = (i ≤ count) × (count ≡ recordsIn s) × (at ≤ 378 * i) × (length out ≡ length out₀) × Put (linesTo s i) out₀ at out
+
+abbrev μ-loop : tie.MeasureT-loop
+μ-loop s out₀ count i₀ at₀ out i at = count - i
+
+add-count : tie.Need-add-count Inv-loop μ-loop
+add-count c =
+    let a = c .before .before in
+    record { fits = count-fits (a .args .s .now) (length (a .args .out .now)) (a .pre) (omega arith) }
+
+loop-holds : tie.Need-loop-holds Inv-loop μ-loop
+unfolding recordsIn
+loop-holds c = (omega arith, refl, omega arith, refl, rw no-lines (nothing (c .before .before .args .out .now)))
+
+record-at-requires : tie.Need-record-at-requires Inv-loop μ-loop
+record-at-requires c κs =
+    let l = c .before in
+    record-begins (l .before .before .before .args .s .now) (l .loop .i) (rw (← l .loop .inv .1) (c .loop-test .taken))
+
+sub-line : tie.Need-sub-line Inv-loop μ-loop
+sub-line c = search needs
+
+part-line-start : tie.Need-part-line-start Inv-loop μ-loop
+part-line-start c = search needs
+
+part-line-end : tie.Need-part-line-end Inv-loop μ-loop
+part-line-end c = search needs
+
+line-requires : tie.Need-line-requires Inv-loop μ-loop
+line-requires c κs = simp (length-take, length-drop) (omega arith)
+
+add-at : tie.Need-add-at Inv-loop μ-loop
+add-at c = search needs
+
+add-i : tie.Need-add-i Inv-loop μ-loop
+add-i c = search needs
+
+loop-less : tie.Need-loop-less Inv-loop μ-loop
+loop-less c = search needs
+
+loop-again : tie.Need-loop-again Inv-loop μ-loop
+loop-again c =
+    let l = c .before .before .before .before .before .before in
+    let a = l .before .before .before .args in
+    let s = a .s .now in
+    let i = l .loop .i in
+    let p = c .before .before .line .ensures in
+    let r = c .before .before .before .before .record-at .ensures in
+    let kept = c .before .before .line .kept .1 .0 in
+    let g = text-behind (linesTo s i) (lineOf (recordAt s i)) (a .out .now) (l .loop .inv .4) (rw r at (p .0), rw r at (p .2)) in
+    (omega arith, l .loop .inv .1, omega arith, rw same-len-mid (l .loop .inv .3), rw (next-line s i) g)
+
+same-length : tie.Need-same-length Inv-loop μ-loop
+same-length c = c .before .loop .inv .3
+
+returns : tie.Need-returns Inv-loop μ-loop
+unfolding linesOf
+returns c =
+    let l = c .before in
+    let all : l .loop .i ≡ recordsIn (l .before .before .before .args .s .now) = omega arith in
+    (rw all at (l .loop .inv .4 .0), omega arith, rw all at (l .loop .inv .4 .1))
+
+pub lines-spec : {M : Type 1} → statement M
+lines-spec =
+    tie.close
+    (tie.spec
+    Inv-loop
+    μ-loop
+    add-count
+    loop-holds
+    record-at-requires
+    sub-line
+    part-line-start
+    part-line-end
+    line-requires
+    add-at
+    add-i
+    loop-less
+    loop-again
+    same-length
+    returns)

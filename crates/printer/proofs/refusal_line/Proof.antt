@@ -1,0 +1,56 @@
+-- The number and the newline are put behind the word.
+use mathlib.Core.List.{[], _∷_, _++_}
+use native.Mathlib.Omega.{arith}
+use Rattle.text.specs.Decimal.{decimal}
+use Rattle.text.proofs.Behind.{text-behind}
+use Rattle.printer.specs.Line.{refusedWord}
+use borrow.Author.Needs.{needs}
+use Rattle.printer.proofs.refusal_line.Statement.{statement}
+use Rattle.printer.proofs.refusal_line.Tie as tie
+
+slice-aggregate-put-bytes : tie.Need-slice-aggregate-put-bytes
+slice-aggregate-put-bytes c = search needs
+
+put-bytes-requires : tie.Need-put-bytes-requires
+put-bytes-requires c κs = search needs
+
+sub-put-item : tie.Need-sub-put-item
+sub-put-item c = search needs
+
+part-put-item-start : tie.Need-part-put-item-start
+part-put-item-start c = search needs
+
+part-put-item-end : tie.Need-part-put-item-end
+part-put-item-end c = search needs
+
+put-item-requires : tie.Need-put-item-requires
+put-item-requires c κs = search needs
+
+add-result : tie.Need-add-result
+add-result c = search needs
+
+same-length : tie.Need-same-length
+same-length c = search needs
+
+returns : tie.Need-returns
+returns c =
+    let b = c .before .before .before .before .before .before in
+    let a = b .before .before .before .before .args in
+    let w = b .put-bytes .ensures in
+    let p = c .before .before .put-item .ensures in
+    let g = text-behind refusedWord (decimal (a .k) ++ (10 ∷ [])) (a .out .now) (w .0, w .1) (p .0, p .3) in
+    (g .0, omega arith, g .1)
+
+pub refusal-line-spec : {M : Type 1} → statement M
+refusal-line-spec =
+    tie.close
+    (tie.spec
+    slice-aggregate-put-bytes
+    put-bytes-requires
+    sub-put-item
+    part-put-item-start
+    part-put-item-end
+    put-item-requires
+    add-result
+    same-length
+    returns)
