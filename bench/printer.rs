@@ -1,18 +1,19 @@
 // The plan printer in plain Rust: the same checks in the same order and buffers of the same sizes,
-// for bench/run.sh to time beside the proved one.
+// for bench/run.sh to time beside the proved one. bench/core.rs uses the reader.
 use std::io::{Read, Write};
 
 const RECORD: usize = 66;
 const PIECE: usize = 992 * RECORD;
 const TEXT: usize = 992 * 378;
 
-struct Plan {
-    start: u32,
-    end: u32,
-    steps: usize,
-    word: u8,
-    extra: Option<[u32; 2]>,
-    pairs: [[u32; 2]; 6],
+#[derive(Clone, Copy)]
+pub struct Plan {
+    pub start: u32,
+    pub end: u32,
+    pub steps: usize,
+    pub word: u8,
+    pub extra: Option<[u32; 2]>,
+    pub pairs: [[u32; 2]; 6],
 }
 
 // A field of four bytes, two decimal digits a byte; none where a digit is above 9.
@@ -27,7 +28,7 @@ fn field(s: &[u8], at: usize) -> Option<u32> {
     Some(x)
 }
 
-fn is_date(d: u32) -> bool {
+pub fn is_date(d: u32) -> bool {
     let (y, m, day) = (d / 10_000, d / 100 % 100, d % 100);
     let most = match m {
         1 | 3 | 5 | 7 | 8 | 10 | 12 => 31,
@@ -60,14 +61,23 @@ fn fields(s: &[u8]) -> Result<Plan, u8> {
     };
     let mut pairs = [[0; 2]; 6];
     for (i, pair) in pairs.iter_mut().enumerate().take(steps) {
-        *pair = [field(s, 18 + 8 * i).ok_or(4)?, field(s, 22 + 8 * i).ok_or(4)?];
+        *pair = [
+            field(s, 18 + 8 * i).ok_or(4)?,
+            field(s, 22 + 8 * i).ok_or(4)?,
+        ];
     }
-    Ok(Plan { start, end, steps, word, extra, pairs })
+    Ok(Plan {
+        start,
+        end,
+        steps,
+        word,
+        extra,
+        pairs,
+    })
 }
 
-// Refusals 5 to 7 besides.
-fn read(s: &[u8]) -> Result<Plan, u8> {
-    let p = fields(s)?;
+// Refusals 5 to 7.
+pub fn vet(p: &Plan) -> Result<(), u8> {
     let dates = is_date(p.start) && is_date(p.end);
     let (more_dates, more_days) = match (p.word, p.extra) {
         (4, Some([a, b])) => (is_date(a) && is_date(b), a < b && p.start < b && a < p.end),
@@ -83,6 +93,12 @@ fn read(s: &[u8]) -> Result<Plan, u8> {
     if p.pairs[..p.steps].iter().any(|pair| pair[1] == 0) {
         return Err(7);
     }
+    Ok(())
+}
+
+pub fn read(s: &[u8]) -> Result<Plan, u8> {
+    let p = fields(s)?;
+    vet(&p)?;
     Ok(p)
 }
 

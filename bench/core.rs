@@ -1,0 +1,217 @@
+// Times the proved core (the archive of the crate bench_core) beside the same work in plain Rust:
+//
+//   core RECORDS          a table of nanoseconds
+//   core RECORDS NAME N   NAME once with N calls, for a count of instructions
+//
+// RECORDS is a file of 66-byte records. bench/core.sh builds and runs it.
+use std::hint::black_box;
+use std::time::Instant;
+
+#[path = "meter.rs"]
+mod meter;
+#[allow(dead_code)]
+#[path = "printer.rs"]
+mod printer;
+
+use meter::Meter;
+
+const RECORD: usize = 66;
+
+extern "C" {
+    fn bench_read(s: *const u8, len: usize) -> u32;
+    fn bench_write(s: *const u8, len: usize, out: *mut u8, room: usize) -> u8;
+    fn bench_pulses(turns: u32, n: u32) -> u32;
+    fn bench_balance(turns: u32, n: u32) -> u64;
+    fn bench_turns(n: u32) -> usize;
+    fn bench_bounds(turns: u32, n: u32) -> u32;
+}
+
+fn plan_a() -> [u8; RECORD] {
+    let mut s = [0; RECORD];
+    s[..10].copy_from_slice(&[0x20, 0x20, 1, 1, 0x20, 0x21, 1, 1, 2, 1]);
+    s[18..34].copy_from_slice(&[
+        0, 0, 0x25, 0, 0, 2, 0x60, 0, 0x99, 0x99, 0x99, 0x99, 0, 3, 0x15, 0,
+    ]);
+    s
+}
+
+// As `date_of` of the crate.
+fn date_of(i: u32) -> u32 {
+    let k = i % 26_000 + 14;
+    let month = k / 28;
+    (2020 + month / 12) * 10_000 + (month % 12 + 1) * 100 + k % 28 + 1
+}
+
+#[inline(never)]
+fn plain_read(s: &[u8]) -> u32 {
+    printer::read(s).map_or(0, |p| p.start)
+}
+
+#[inline(never)]
+fn plain_write(s: &[u8], out: &mut [u8]) -> u8 {
+    match printer::read(s).and_then(|p| meter::write(&p, out)) {
+        Ok(()) => 0,
+        Err(_) => 1,
+    }
+}
+
+fn aged(turns: u32) -> Meter {
+    let mut m = Meter::started(&plan_a());
+    for i in 1..=turns {
+        let _ = m.tick(black_box(date_of(i)), 0);
+    }
+    m
+}
+
+fn pulsed(turns: u32, n: u32) -> Meter {
+    let mut m = aged(turns);
+    for _ in 0..n {
+        let _ = m.pulses(black_box(date_of(turns)), 0, black_box(1));
+    }
+    m
+}
+
+fn plain_bounds(turns: u32, n: u32) -> u32 {
+    let m = aged(turns);
+    (0..n).map(|_| black_box(&m).is_bounded() as u32).sum()
+}
+
+// A sum of what n calls answer; the record of each is the next of the file.
+fn read_all(proved: bool, records: &[u8], n: u32) -> u64 {
+    let mut sum = 0;
+    for s in records.chunks_exact(RECORD).cycle().take(n as usize) {
+        sum += match proved {
+            true => unsafe { bench_read(s.as_ptr(), s.len()) },
+            false => plain_read(s),
+        } as u64;
+    }
+    sum
+}
+
+fn write_all(proved: bool, records: &[u8], n: u32) -> u64 {
+    let mut out = [0u8; RECORD];
+    let mut sum = 0;
+    for s in records.chunks_exact(RECORD).cycle().take(n as usize) {
+        sum += match proved {
+            true => unsafe { bench_write(s.as_ptr(), s.len(), out.as_mut_ptr(), out.len()) },
+            false => plain_write(s, &mut out),
+        } as u64;
+        black_box(&out);
+    }
+    sum + out.iter().map(|&b| b as u64).sum::<u64>()
+}
+
+fn run(name: &str, proved: bool, records: &[u8], n: u32) -> u64 {
+    let (what, turns) = match name.split_once('-') {
+        Some((what, turns)) => (what, turns.parse().unwrap()),
+        None => (name, 0),
+    };
+    match (what, proved) {
+        ("read", _) => read_all(proved, records, n),
+        ("write", _) => write_all(proved, records, n),
+        ("pulses", true) => unsafe { bench_pulses(turns, n) as u64 },
+        ("pulses", false) => pulsed(turns, n).total as u64,
+        ("turns", true) => unsafe { bench_turns(n) as u64 },
+        ("turns", false) => aged(n).day_records() as u64,
+        ("bounds", true) => unsafe { bench_bounds(turns, n) as u64 },
+        ("bounds", false) => plain_bounds(turns, n) as u64,
+        _ => panic!("no {name}"),
+    }
+}
+
+// Nanoseconds of a call: the best of some runs with n calls, less the best with none.
+fn each(name: &str, records: &[u8], n: u32, runs: u32) -> [f64; 2] {
+    let mut best = [[f64::MAX; 2]; 2];
+    for _ in 0..runs {
+        let mut seen = [0; 2];
+        for (side, proved) in [true, false].into_iter().enumerate() {
+            for (k, calls) in [0, n].into_iter().enumerate() {
+                let begun = Instant::now();
+                seen[side] = black_box(run(name, proved, records, black_box(calls)));
+                best[side][k] = best[side][k].min(begun.elapsed().as_nanos() as f64);
+            }
+        }
+        assert_eq!(seen[0], seen[1], "{name}: the two differ");
+    }
+    best.map(|b| (b[1] - b[0]) / n as f64)
+}
+
+fn line(what: &str, [proved, plain]: [f64; 2]) {
+    println!(
+        "{what:<58} {proved:>9.1} {plain:>9.1} {:>6.2}",
+        proved / plain
+    );
+}
+
+fn same_bytes(records: &[u8]) {
+    for s in records.chunks_exact(RECORD) {
+        let mut outs = [[7u8; RECORD]; 2];
+        let [a, b] = &mut outs;
+        let one = unsafe { bench_write(s.as_ptr(), s.len(), a.as_mut_ptr(), a.len()) };
+        assert_eq!(one, plain_write(s, b));
+        assert_eq!(outs[0], outs[1]);
+    }
+}
+
+// Across the three thresholds and zero, and with no plan in force.
+fn same_balances() {
+    for (turns, n) in [(0, 0), (0, 2_500), (0, 3_612), (62, 5_000), (400, 10)] {
+        let proved = unsafe { bench_balance(turns, n) };
+        assert_eq!(proved, pulsed(turns, n).balance.unsigned_abs());
+    }
+}
+
+fn main() {
+    let args: Vec<String> = std::env::args().collect();
+    let records = std::fs::read(&args[1]).unwrap();
+    if let [_, _, name, n] = &args[..] {
+        let (name, proved) = match name.strip_prefix("plain-") {
+            Some(rest) => (rest, false),
+            None => (&name[..], true),
+        };
+        println!("{}", run(name, proved, &records, n.parse().unwrap()));
+        return;
+    }
+    same_bytes(&records);
+    same_balances();
+    println!(
+        "{:<58} {:>9} {:>9} {:>6}",
+        "nanoseconds a call", "Rattle", "plain", "ratio"
+    );
+    let read = each("read", &records, 1_000_000, 7);
+    let both = each("write", &records, 1_000_000, 7);
+    line("read a record", read);
+    line("read and write a record", both);
+    line(
+        "write a record (the difference)",
+        [both[0] - read[0], both[1] - read[1]],
+    );
+    line(
+        "pulse call, no record held",
+        each("pulses", &records, 200_000, 7),
+    );
+    line(
+        "pulse call, 62 day and 2 month records",
+        each("pulses-62", &records, 200_000, 7),
+    );
+    line(
+        "pulse call, 62 and 120 records, no plan in force",
+        each("pulses-4000", &records, 100_000, 7),
+    );
+    line(
+        "day turn, the first 300 (Plan A in force)",
+        each("turns", &records, 300, 200),
+    );
+    line(
+        "day turn, mean of 26,000 (records full from 3,360 on)",
+        each("turns", &records, 26_000, 7),
+    );
+    line(
+        "bounds test, 62 day and 2 month records",
+        each("bounds-62", &records, 200_000, 7),
+    );
+    line(
+        "bounds test, 62 and 120 records",
+        each("bounds-4000", &records, 100_000, 7),
+    );
+}
