@@ -1,6 +1,5 @@
 -- Document 01, "Refusal by operation": refusals come in order, and the first whose condition holds is the answer.
 use mathlib.Core.Bool.{Bool, true, false, cond}
-use mathlib.Core.List.{List, [], _∷_}
 use Prim.Native.Nat.{ℕ}
 use Rattle.answer.specs.declared.Answer.{Answer}
 use Rattle.answer.specs.declared.Answer.the-variants.{Accepted, Refused}
