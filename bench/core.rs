@@ -1,4 +1,4 @@
-// Times the proved core (the archive of the crate bench_core) beside the same work in plain Rust:
+// Times the C library (target/staticlib/libhost.a) beside the same work in plain Rust:
 //
 //   core RECORDS          a table of nanoseconds
 //   core RECORDS NAME N   NAME once with N calls, for a count of instructions
@@ -7,24 +7,23 @@
 use std::hint::black_box;
 use std::time::Instant;
 
+#[allow(dead_code)]
+#[path = "../tests/model/calls.rs"]
+mod calls;
+#[allow(dead_code)]
+#[path = "../tests/model/library.rs"]
+mod library;
 #[path = "meter.rs"]
 mod meter;
 #[allow(dead_code)]
 #[path = "printer.rs"]
 mod printer;
 
+use calls::Call;
+use library::Stamp;
 use meter::Meter;
 
 const RECORD: usize = 66;
-
-extern "C" {
-    fn bench_read(s: *const u8, len: usize) -> u32;
-    fn bench_write(s: *const u8, len: usize, out: *mut u8, room: usize) -> u8;
-    fn bench_pulses(turns: u32, n: u32) -> u32;
-    fn bench_balance(turns: u32, n: u32) -> u64;
-    fn bench_turns(n: u32) -> usize;
-    fn bench_bounds(turns: u32, n: u32) -> u32;
-}
 
 fn plan_a() -> [u8; RECORD] {
     let mut s = [0; RECORD];
@@ -35,7 +34,7 @@ fn plan_a() -> [u8; RECORD] {
     s
 }
 
-// As `date_of` of the crate.
+// Date i of a run that starts on 20200115 and has 28 days in each month; it begins again after 26,000 dates, before 2099.
 fn date_of(i: u32) -> u32 {
     let k = i % 26_000 + 14;
     let month = k / 28;
@@ -71,9 +70,78 @@ fn pulsed(turns: u32, n: u32) -> Meter {
     m
 }
 
-fn plain_bounds(turns: u32, n: u32) -> u32 {
+fn plain_display(turns: u32, n: u32) -> u64 {
     let m = aged(turns);
-    (0..n).map(|_| black_box(&m).is_bounded() as u32).sum()
+    (0..n)
+        .map(|_| match black_box(&m) {
+            m if m.is_bounded() => m.balance.div_euclid(100) as u64,
+            _ => 0,
+        })
+        .sum()
+}
+
+fn at(i: u32) -> Stamp {
+    Stamp {
+        date: date_of(i),
+        second: 0,
+    }
+}
+
+// The library's meter on 20200115 with Plan A of document 01 in slot 1, a recharge of 100 yuan, and the valve open.
+fn proved_started() -> library::Meter {
+    let stamp = at(0);
+    let calls = [
+        Call::Load {
+            stamp,
+            slot: 1,
+            bytes: plan_a().to_vec(),
+        },
+        Call::Recharge {
+            stamp,
+            amount: 1_000_000,
+            serial: 1,
+        },
+        Call::Key { stamp },
+    ];
+    let mut m = library::fresh();
+    for call in &calls {
+        assert_eq!(library::run(&mut m, call).accepted, 1);
+    }
+    m
+}
+
+fn proved_aged(turns: u32) -> library::Meter {
+    let mut m = proved_started();
+    for i in 1..=turns {
+        library::run(&mut m, &Call::Tick { stamp: black_box(at(i)) });
+    }
+    m
+}
+
+fn proved_pulsed(turns: u32, n: u32) -> library::Meter {
+    let mut m = proved_aged(turns);
+    for _ in 0..n {
+        let stamp = black_box(at(turns));
+        library::run(&mut m, &Call::Pulses { stamp, count: black_box(1) });
+    }
+    m
+}
+
+fn proved_display(turns: u32, n: u32) -> u64 {
+    let m = proved_aged(turns);
+    (0..n).map(|_| library::display(black_box(&m)).shown as u64).sum()
+}
+
+fn proved_read(s: &[u8]) -> u32 {
+    library::plan_read(s).plan.start
+}
+
+fn proved_write(s: &[u8], out: &mut [u8]) -> u8 {
+    let r = library::plan_read(s);
+    if r.accepted == 0 {
+        return 1;
+    }
+    1 - library::plan_write(r.plan, out).accepted
 }
 
 // A sum of what n calls answer; the record of each is the next of the file.
@@ -81,7 +149,7 @@ fn read_all(proved: bool, records: &[u8], n: u32) -> u64 {
     let mut sum = 0;
     for s in records.chunks_exact(RECORD).cycle().take(n as usize) {
         sum += match proved {
-            true => unsafe { bench_read(s.as_ptr(), s.len()) },
+            true => proved_read(s),
             false => plain_read(s),
         } as u64;
     }
@@ -93,7 +161,7 @@ fn write_all(proved: bool, records: &[u8], n: u32) -> u64 {
     let mut sum = 0;
     for s in records.chunks_exact(RECORD).cycle().take(n as usize) {
         sum += match proved {
-            true => unsafe { bench_write(s.as_ptr(), s.len(), out.as_mut_ptr(), out.len()) },
+            true => proved_write(s, &mut out),
             false => plain_write(s, &mut out),
         } as u64;
         black_box(&out);
@@ -109,12 +177,12 @@ fn run(name: &str, proved: bool, records: &[u8], n: u32) -> u64 {
     match (what, proved) {
         ("read", _) => read_all(proved, records, n),
         ("write", _) => write_all(proved, records, n),
-        ("pulses", true) => unsafe { bench_pulses(turns, n) as u64 },
+        ("pulses", true) => proved_pulsed(turns, n).volumes.total as u64,
         ("pulses", false) => pulsed(turns, n).total as u64,
-        ("turns", true) => unsafe { bench_turns(n) as u64 },
+        ("turns", true) => proved_aged(n).journal.days.count as u64,
         ("turns", false) => aged(n).day_records() as u64,
-        ("bounds", true) => unsafe { bench_bounds(turns, n) as u64 },
-        ("bounds", false) => plain_bounds(turns, n) as u64,
+        ("display", true) => proved_display(turns, n),
+        ("display", false) => plain_display(turns, n),
         _ => panic!("no {name}"),
     }
 }
@@ -147,7 +215,7 @@ fn same_bytes(records: &[u8]) {
     for s in records.chunks_exact(RECORD) {
         let mut outs = [[7u8; RECORD]; 2];
         let [a, b] = &mut outs;
-        let one = unsafe { bench_write(s.as_ptr(), s.len(), a.as_mut_ptr(), a.len()) };
+        let one = proved_write(s, a);
         assert_eq!(one, plain_write(s, b));
         assert_eq!(outs[0], outs[1]);
     }
@@ -156,8 +224,7 @@ fn same_bytes(records: &[u8]) {
 // Across the three thresholds and zero, and with no plan in force.
 fn same_balances() {
     for (turns, n) in [(0, 0), (0, 2_500), (0, 3_612), (62, 5_000), (400, 10)] {
-        let proved = unsafe { bench_balance(turns, n) };
-        assert_eq!(proved, pulsed(turns, n).balance.unsigned_abs());
+        assert_eq!(proved_pulsed(turns, n).account.balance, pulsed(turns, n).balance);
     }
 }
 
@@ -207,11 +274,11 @@ fn main() {
         each("turns", &records, 26_000, 7),
     );
     line(
-        "bounds test, 62 day and 2 month records",
-        each("bounds-62", &records, 200_000, 7),
+        "display query (a bounds test), 62 day and 2 month records",
+        each("display-62", &records, 200_000, 7),
     );
     line(
-        "bounds test, 62 and 120 records",
-        each("bounds-4000", &records, 100_000, 7),
+        "display query (a bounds test), 62 and 120 records",
+        each("display-4000", &records, 100_000, 7),
     );
 }

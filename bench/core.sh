@@ -1,6 +1,6 @@
 #!/bin/sh
-# Times the proved core beside plain Rust (bench/core.rs, bench/meter.rs), and counts instructions
-# where valgrind is there. Run it in the repository's root after `rt check bench_core`:
+# Times the C library beside plain Rust (bench/core.rs, bench/meter.rs), and counts instructions
+# where valgrind is there. Run it in the repository's root after `rt check host`:
 #
 #   bench/core.sh [RECORDS]
 #
@@ -11,8 +11,8 @@ room=target/bench
 input=$room/records-$records
 mkdir -p "$room"
 
-rt staticlib bench_core > "$room/staticlib.log" 2>&1 || { cat "$room/staticlib.log"; exit 1; }
-rustc --edition 2021 -O -o "$room/core" bench/core.rs -L target/staticlib -l static=bench_core
+rt staticlib host > "$room/staticlib.log" 2>&1 || { cat "$room/staticlib.log"; exit 1; }
+rustc --edition 2021 -O -o "$room/core" bench/core.rs -L target/staticlib -l static=host
 [ -s "$input" ] || { python3 tests/records.py many "$records" > "$input.part" && mv "$input.part" "$input"; }
 
 "$room/core" "$input"
@@ -26,7 +26,7 @@ count() {
 
 echo
 echo "instructions a call: those of 2,000 calls less those of 1,000, by 1,000"
-for name in read write pulses pulses-62 pulses-4000 turns bounds-62 bounds-4000; do
+for name in read write pulses pulses-62 pulses-4000 turns display-62 display-4000; do
     a=$(count "$name" 1000)
     b=$(count "$name" 2000)
     c=$(count "plain-$name" 1000)

@@ -16,6 +16,7 @@ ghost use Rattle.account.specs.Account.{rechargeRefusal, recharged, alar
 ghost use Rattle.account.specs.Fall.{struck, fallOf};
 
 // The balance, the last accepted serial (0 before the first), and the two alarms in whole yuan.
+#[repr(C)]
 pub struct Account {
     pub balance: Millionths,
     pub serial: u32,
@@ -24,12 +25,14 @@ pub struct Account {
 }
 
 // The station mark, "allow" or "forbid", and the valve.
+#[repr(C)]
 pub struct Valve {
     pub allow: bool,
     pub opened: bool,
 }
 
 // Event codes in their order, as 0x12 and, for "80 02 00 12", 0x80020012.
+#[repr(C)]
 pub struct Codes {
     pub count: usize,
     pub said: [u32; 8],

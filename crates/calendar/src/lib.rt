@@ -8,6 +8,7 @@ ghost use Rattle.calendar.specs.DayNumber.{daysOfMonths, daysOfYears, da
 ghost use Rattle.calendar.specs.Cycle.{monthStart, quarterMonth, quarterStart, yearStart, cycleStart, runOf};
 
 // A date, YYYYMMDD, and a second of that day.
+#[repr(C)]
 pub struct Stamp {
     pub date: u32,
     pub second: u32,

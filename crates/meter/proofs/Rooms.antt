@@ -1,15 +1,16 @@
 -- What the bounds of a meter leave for the leaves of a call, before and after the day is turned.
 use mathlib.Core.Path.{_≡_, refl, sym, ap, _∙_}
 use mathlib.Core.Bool.{Bool, true, false, cond, not, _&&_, _||_}
+use mathlib.Core.List.{[]}
 use Prim.Native.Nat.{ℕ, _+_, _*_, _^_, _≤_, _<_}
 use native.Mathlib.Omega.{arith}
-use lib.Dec.{leb, eqb}
+use lib.Dec.{leb, ltb, eqb}
 use Rattle.units.specs.Money.{Small}
 use Rattle.units.specs.Volume.{highestTotal}
 use Rattle.answer.specs.declared.Answer.the-variants.{Accepted}
 use Rattle.answer.specs.Answer.{need}
 use Rattle.answer.proofs.Tests.{cases, never, and-left, and-right, not-true, need-first, need-rest}
-use borrow.Author.Tests.{leb-true, eq-eqb, ne-eqb, eqb-false}
+use borrow.Author.Tests.{le-ltb, leb-true, eq-eqb, ne-eqb, eqb-false}
 use Rattle.calendar.specs.declared.Stamp.{Stamp}
 use Rattle.calendar.specs.Date.{isDate}
 use Rattle.calendar.specs.Stamp.{notBefore}
@@ -24,9 +25,10 @@ use Rattle.slots.specs.Bounds.{slotGood, freshSlots}
 use Rattle.slots.proofs.Real.{real-laws}
 use Rattle.meter.specs.declared.Volumes.{Volumes}
 use Rattle.meter.specs.declared.Meter.{Meter}
+use Rattle.meter.specs.Meter.{withClock}
 use Rattle.meter.specs.Bounds.{stampGood, noClock, isFresh, freshVolumes, stateGood, bounded}
 use Rattle.account.specs.Account.{freshAccount}
-use Rattle.meter.specs.Turn.{turn}
+use Rattle.meter.specs.Turn.{turn, turnedTo, turnCodes}
 use Rattle.meter.specs.Refusals.{stampRefusal, pulseRefusal}
 use Rattle.meter.proofs.State.{State, state-in, state-out, bounded-state}
 use Rattle.meter.proofs.Kept.{slots-in, total-in, total-low, turn-state, turn-account, turn-volumes, fee-cap}
@@ -137,6 +139,19 @@ pulses-fit m s n h =
 
 pub turned-good : (m : Meter) (s : Stamp) → stampRefusal real m s ≡ Accepted → stateGood real (turn real m s) ≡ true
 turned-good m s h = state-out real real-laws (turn real m s) (turned-state m s h)
+
+-- a stamp of the clock's own date turns no day; after a turn the clock is the stamp
+pub same-day : (m : Meter) (s : Stamp) → s .date ≤ m .clock .date → turn real m s ≡ withClock m s
+unfolding turn
+same-day m s h = rw (le-ltb _ _ h)
+
+pub same-day-codes : (m : Meter) (s : Stamp) → s .date ≤ m .clock .date → turnCodes real m s ≡ []
+unfolding turnCodes
+same-day-codes m s h = rw (le-ltb _ _ h)
+
+pub clock-set : (m : Meter) (s : Stamp) → withClock (turn real m s) s ≡ turn real m s
+unfolding turn turnedTo
+clock-set m s = cases (ltb (m .clock .date) (s .date)) (λ h. rw h) (λ h. rw h)
 
 -- an account within its bounds
 pub small-balance : (m : Meter) → State real real-laws m → Small (m .account .balance .0)

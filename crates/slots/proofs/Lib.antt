@@ -1,4 +1,3 @@
 pub mod Answers
 pub mod Bounds
-pub mod Charge
 pub mod Real

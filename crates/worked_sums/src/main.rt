@@ -1,12 +1,9 @@
-// Document 01, "Worked sums": those that a program checks, the overlap of Tables C.10 and C.11, gas at
-// midnight of a month's end, and each refusal number at least once.
-mod count; // count.rt: the lines that are printed
-mod refusals; // refusals.rt: the numbers 0 to 27
-mod setup; // setup.rt: records and meters
-mod state; // state.rt: answers and meters compared
+// Document 01, "Worked sums": those that a program checks, the overlap of Tables C.10 and C.11, and
+// gas at midnight of a month's end.
 mod sums; // sums.rt: the worked sums
 
-use count::Count;
+use trial::count;
+use trial::count::Count;
 
 fn main() {
     let c = Count {
@@ -14,7 +11,6 @@ fn main() {
         wrong: 0,
     };
     let c = sums::all(c);
-    let c = refusals::all(c);
     let c = sums::displays(c);
     count::sum_up(c);
 }

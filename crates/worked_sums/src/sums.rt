@@ -1,8 +1,8 @@
 // The worked sums.
-use crate::count::Count;
-use crate::count::say;
-use crate::setup;
-use crate::state;
+use trial::count::Count;
+use trial::count::say;
+use trial::setup;
+use trial::state;
 use journal::Fetched;
 use meter::Meter;
 use query::Displayed;

@@ -1,0 +1,8 @@
+pub mod Called
+pub mod Kind
+pub mod Lent
+pub mod LentSlice
+pub mod Metered
+pub mod Seen
+pub mod Sums
+pub mod Told
