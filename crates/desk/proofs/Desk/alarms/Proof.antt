@@ -1,0 +1,21 @@
+-- The ledger does not look at this call.
+use mathlib.Core.Path.{refl, _∙_}
+use Rattle.meter.specs.Call.{alarms as call}
+use Rattle.book.specs.Kept.{enteredBook}
+use Rattle.desk.proofs.Runs.{unfed}
+use borrow.Author.Needs.{needs}
+use Rattle.desk.proofs.Desk.alarms.Statement.{statement}
+use Rattle.desk.proofs.Desk.alarms.Tie as tie
+
+alarms-requires : tie.Need-alarms-requires
+alarms-requires c κs = search needs
+
+ran-requires : tie.Need-ran-requires
+ran-requires c κs = search needs
+
+returns : tie.Need-returns
+unfolding enteredBook
+returns c = c .ran .ensures ∙ unfed (c .before .before .before .before .args .self) (call (c .before .before .before .before .args .p)) _ (c .before .alarms .ensures) refl
+
+pub alarms-spec : {M : Type 1} → statement M
+alarms-spec = tie.close (tie.spec alarms-requires ran-requires returns)

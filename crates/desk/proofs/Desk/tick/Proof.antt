@@ -1,0 +1,21 @@
+-- The ledger does not look at this call.
+use mathlib.Core.Path.{refl, _∙_}
+use Rattle.meter.specs.Call.{tick as call}
+use Rattle.book.specs.Kept.{enteredBook}
+use Rattle.desk.proofs.Runs.{unfed}
+use borrow.Author.Needs.{needs}
+use Rattle.desk.proofs.Desk.tick.Statement.{statement}
+use Rattle.desk.proofs.Desk.tick.Tie as tie
+
+tick-requires : tie.Need-tick-requires
+tick-requires c κs = search needs
+
+ran-requires : tie.Need-ran-requires
+ran-requires c κs = search needs
+
+returns : tie.Need-returns
+unfolding enteredBook
+returns c = c .ran .ensures ∙ unfed (c .before .before .before .before .args .self) (call (c .before .before .before .before .args .p)) _ (c .before .tick .ensures) refl
+
+pub tick-spec : {M : Type 1} → statement M
+tick-spec = tie.close (tie.spec tick-requires ran-requires returns)
