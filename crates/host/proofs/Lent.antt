@@ -105,8 +105,8 @@ module _ (S : Setting) where
     abbrev pub Borrow : Lft → ℕ → ℕ → GName → Item 𝓤
     Borrow κ b o γ = ‵ (fbor κ (Behind (mem (rowOf (S .T))) b o γ))
 
-    abbrev pub Seen : GName → Of (S .T) → Item 𝓤
-    Seen γ h = ‵ (fobs γ (rowOf (S .T) .coded .code h))
+    abbrev pub Known : GName → Of (S .T) → Item 𝓤
+    Known γ h = ‵ (fobs γ (rowOf (S .T) .coded .code h))
 
   module _ {M : Type 1} (𝓤 : URA M) (H : Heap 𝓤) (A : Atoms 𝓤) (W : Given 𝓤 H A) (C : Calls 𝓤 H) (Λ : Loops 𝓤 H) (fm : FmC 𝓤 H (W .laws) C) (teller : Triple 𝓤 (C (S .teller)) (Teller 𝓤 H A))
       (κ : Lft) (q : Share) (b o : ℕ) (γ : GName) (h : Of (S .T)) (r : S .X) (is : Is (rowOf outcome) r (mach outcome r ∷ [])) where
@@ -125,8 +125,8 @@ module _ (S : Setting) where
       Locals = ‵ (fat fullShare (mirOf outcome) l 0 (mach outcome r)) ∷ ‵ (fat fullShare behind l₁ 0 (vptr b o)) ∷ Γ
 
       pub gives-back : ((t : Of (S .R)) → t ≡ S .reply (S .tells r) → Is (rowOf (S .R)) t (mach (S .R) t ∷ [])
-          → Sq W (‵ (fat fullShare (mirOf (S .R)) l₀ 0 (mach (S .R) t)) ∷ Seen 𝓤 H A γ (S .state r) ∷ Borrow 𝓤 H A κ b o γ ∷ ‵ (flft κ q) ∷ Locals) (runs C Λ E′ return K))
-          → Sq W (‵ (cellAt fullShare (rowOf (S .T) .mir) (mach (S .T) h ∷ []) b o) ∷ ‵ (fobor κ q (Behind (mem (rowOf (S .T))) b o γ)) ∷ Seen 𝓤 H A γ h ∷ ‵ (fauth γ (rowOf (S .T) .coded .code h)) ∷ ‵ (froom (mirOf (S .R)) l₀ 0) ∷ Locals) (runs C Λ E′ (back k) K)
+          → Sq W (‵ (fat fullShare (mirOf (S .R)) l₀ 0 (mach (S .R) t)) ∷ Known 𝓤 H A γ (S .state r) ∷ Borrow 𝓤 H A κ b o γ ∷ ‵ (flft κ q) ∷ Locals) (runs C Λ E′ return K))
+          → Sq W (‵ (cellAt fullShare (rowOf (S .T) .mir) (mach (S .T) h ∷ []) b o) ∷ ‵ (fobor κ q (Behind (mem (rowOf (S .T))) b o γ)) ∷ Known 𝓤 H A γ h ∷ ‵ (fauth γ (rowOf (S .T) .coded .code h)) ∷ ‵ (froom (mirOf (S .R)) l₀ 0) ∷ Locals) (runs C Λ E′ (back k) K)
       gives-back then =
           assigns ! (of-opd ! (load ! (at-local at-k (fld ! refl (stop !))) (look-in ! 5 (sub ! 0 refl (whole !))))) (from ! (hop ! (look ! 6 refl) (stop !))) (store-raw ! 0 refl (typed (S .T) 𝓤 H A W (S .state r) _ (state-is r is))) $
           owned ! (rowOf (S .T)) (Is (rowOf (S .T))) (made (S .T) 𝓤 H A) (S .state r) _ (state-is r is) $ move ! (1 ∷ 0 ∷ []) $ closes ! tt (rowOf (S .T)) (S .state r) (mach (S .T) (S .state r) ∷ []) b o $
@@ -170,9 +170,9 @@ module _ (S : Setting) where
       Ends = walkOf 𝓤 H A lent stayed (says 𝓤) .post bound
 
       exits : (r : S .X) (t : Of (S .R)) → r ≡ step h p → t ≡ S .reply (S .tells r) → Is (rowOf (S .R)) t (mach (S .R) t ∷ [])
-          → ent 𝓤 (⋆ 𝓤 H A (Seen 𝓤 H A γ (S .state r) ∷ Borrow 𝓤 H A κ b o γ ∷ ‵ (flft κ q) ∷ [])) (Ends (mach (S .R) t))
+          → ent 𝓤 (⋆ 𝓤 H A (Known 𝓤 H A γ (S .state r) ∷ Borrow 𝓤 H A κ b o γ ∷ ‵ (flft κ q) ∷ [])) (Ends (mach (S .R) t))
       exits r t e e′ t-is =
-          qed W (Seen 𝓤 H A γ (S .state r) ∷ Borrow 𝓤 H A κ b o γ ∷ ‵ (flft κ q) ∷ []) ∵
+          qed W (Known 𝓤 H A γ (S .state r) ∷ Borrow 𝓤 H A κ b o γ ∷ ‵ (flft κ q) ∷ []) ∵
           suffices ! _ (ends-at 𝓤 H A lent stayed (says 𝓤) W bound (mach (S .R) t) t (S .state r, (P .last p, tt)) (tt, (tt, tt))) $
           say ! (ap (S .state) e, e′ ∙ ap (λ (z : S .X). S .reply (S .tells z)) e) $ nothing ! $ move ! (3 ∷ 0 ∷ []) $ join ! $ frame ! $
           feqI ! (List Val) (vptr b o ∷ []) (vptr b o ∷ []) refl $ fjoin3 ! $ nothing ! $ owned ! (P .R) (Is (P .R)) (P .makes 𝓤 H A W) p _ p-is $ fjoin ! $ move ! (1 ∷ 0 ∷ []) $ fjoin ! $

@@ -35,7 +35,7 @@ use denote.Triple.Walked.{says as say, Stays, stay-ref, stay-none, stay-none-sli
 use denote.Exit.{yes}
 use Rattle.host.proofs.Kind.{Of, rowOf, mirOf, mach, told, made, typed, Param}
 use Rattle.host.proofs.Called.{Promise, Asks, called}
-use Rattle.host.proofs.Lent.{Setting, outcome, behind, back, Teller, Borrow, Seen, gives-back}
+use Rattle.host.proofs.Lent.{Setting, outcome, behind, back, Teller, Borrow, Known, gives-back}
 
 module _ (S : Setting) where
   abbrev slice : Ty
@@ -97,7 +97,7 @@ module _ (S : Setting) where
 
       -- what the walk has at its end
       abbrev Had : S .X → List (Item 𝓤)
-      Had r = Seen S 𝓤 H A γ (S .state r) ∷ Borrow S 𝓤 H A κ b o γ ∷ ‵ (flft κ q) ∷ Tok ∷ ‵ Own ∷ []
+      Had r = Known S 𝓤 H A γ (S .state r) ∷ Borrow S 𝓤 H A κ b o γ ∷ ‵ (flft κ q) ∷ Tok ∷ ‵ Own ∷ []
 
       exits : (r : S .X) (t : Of (S .R)) → r ≡ step h p (now s) → t ≡ S .reply (S .tells r) → Is (rowOf (S .R)) t (mach (S .R) t ∷ []) → ent 𝓤 (⋆ 𝓤 H A (Had r)) (Ends (mach (S .R) t))
       exits r t e e′ t-is =

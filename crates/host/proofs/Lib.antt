@@ -5,4 +5,3 @@ pub mod LentSlice
 pub mod Metered
 pub mod Seen
 pub mod Sums
-pub mod Told

@@ -99,16 +99,18 @@ pub struct PartReply {
 fn reply_of(d: Done) -> Reply
     ensures { λ r. ⌜ r ≡ replyOf d ⌝ }
 {
-    match d.answer {
+    let answer = d.answer;
+    let codes = d.codes;
+    match answer {
         Answer::Accepted => Reply {
             accepted: true,
             refusal: 0,
-            codes: d.codes,
+            codes,
         },
         Answer::Refused(n) => Reply {
             accepted: false,
             refusal: n,
-            codes: d.codes,
+            codes,
         },
     }
 }
@@ -396,16 +398,18 @@ pub extern "C" fn harpdapple_plan_read(bytes: &[u8]) -> PlanReply
     ensures { λ r. ⌜ r ≡ planReplyOf (readOf (now (bytes .entry))) ⌝ }
 {
     let a = record::read(bytes);
-    match a.answer {
+    let answer = a.answer;
+    let plan = a.plan;
+    match answer {
         Answer::Accepted => PlanReply {
             accepted: true,
             refusal: 0,
-            plan: a.plan,
+            plan,
         },
         Answer::Refused(n) => PlanReply {
             accepted: false,
             refusal: n,
-            plan: a.plan,
+            plan,
         },
     }
 }
