@@ -1,8 +1,4 @@
 // Document 01, "Refusal by operation": each number, the meter unchanged where it is a call's.
-use trial::count::Count;
-use trial::count::say;
-use trial::setup;
-use trial::state;
 use journal::Fetched;
 use journal::Heavy;
 use meter::Meter;
@@ -10,6 +6,10 @@ use meter::Outcome;
 use record::Choice;
 use record::Reading;
 use slots::Stepped;
+use trial::count::Count;
+use trial::count::say;
+use trial::setup;
+use trial::state;
 use units::Hundredths;
 
 fn broken(c: Count) -> Count {

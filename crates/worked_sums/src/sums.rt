@@ -1,12 +1,12 @@
 // The worked sums.
-use trial::count::Count;
-use trial::count::say;
-use trial::setup;
-use trial::state;
 use journal::Fetched;
 use meter::Meter;
 use query::Displayed;
 use slots::Stepped;
+use trial::count::Count;
+use trial::count::say;
+use trial::setup;
+use trial::state;
 
 fn pulse_limit(c: Count) -> Count {
     let m = setup::ready();

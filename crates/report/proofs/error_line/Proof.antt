@@ -1,0 +1,31 @@
+-- What is wrong is put behind the line's number.
+use native.Mathlib.Omega.{arith}
+use borrow.Author.Needs.{needs}
+use Rattle.report.specs.Errors.{errorLine}
+use Rattle.place.proofs.Placed.{then, first}
+use Rattle.report.proofs.error_line.Statement.{statement}
+use Rattle.report.proofs.error_line.Tie as tie
+
+slice-aggregate-item : tie.Need-slice-aggregate-item
+slice-aggregate-item c = search needs
+
+item-requires : tie.Need-item-requires
+item-requires c κs = search needs
+
+fault-at-requires : tie.Need-fault-at-requires
+fault-at-requires c κs = search needs
+
+same-length : tie.Need-same-length
+same-length c = search needs
+
+returns : tie.Need-returns
+unfolding errorLine
+returns c =
+    let f = c .before .before in
+    let n = f .before .before .before .before in
+    let g = first (then (n .item .ensures .0) (f .fault-at .ensures .0)) in
+    (g .0, omega arith, g .1)
+
+pub error-line-spec : {M : Type 1} → statement M
+error-line-spec =
+    tie.close (tie.spec slice-aggregate-item item-requires fault-at-requires same-length returns)

@@ -1,0 +1,101 @@
+-- A line is empty, or has a fault, or says what its words say.
+use mathlib.Core.Path.{sym, ap, _∙_}
+use mathlib.Core.List.{List}
+use Prim.Native.Nat.{ℕ}
+use native.Mathlib.Omega.{arith}
+use Rattle.text.specs.Decimal.{startingWith}
+use Rattle.text.proofs.Behind.{nothing}
+use Rattle.words.proofs.Lengths.{content-most}
+use Rattle.script.specs.declared.Form.{Form}
+use Rattle.script.specs.declared.Kind.{Kind}
+use Rattle.script.specs.Kinds.{kindOf, formOf}
+use Rattle.script.specs.Faults.{verdictOf}
+use Rattle.script.specs.Orders.{saidBy, recordBy}
+use Rattle.script.proofs.Lines.{empty-line, wrong-line, sound-line}
+use borrow.Author.Needs.{needs}
+use Rattle.script.proofs.parse.Statement.{statement}
+use Rattle.script.proofs.parse.Tie as tie
+
+content-requires : tie.Need-content-requires
+content-requires c κs = search needs
+
+returns : tie.Need-returns
+returns c =
+    let i = c in
+    let a = i .before .before .before .before .args in
+    let s = i .before .content .result .now in
+    let line = empty-line (a .line .now) s (i .before .content .ensures) (i .if1 .taken) in
+    (line .0, nothing (a .room .now) .1 ∙ ap (λ (l : List ℕ). startingWith l (a .room .now)) (line .1))
+
+word-requires : tie.Need-word-requires
+word-requires c κs = search needs
+
+kind-of-requires : tie.Need-kind-of-requires
+kind-of-requires c κs = search needs
+
+form-of-requires : tie.Need-form-of-requires
+form-of-requires c κs = search needs
+
+verdict-of-requires : tie.Need-verdict-of-requires
+verdict-of-requires c κs = search needs
+
+enum-known-verdict : tie.Need-enum-known-verdict
+enum-known-verdict c = search needs
+
+returns-2 : tie.Need-returns-2
+returns-2 c =
+    let i = c .before .before .before .before .before .before .before in
+    let a = i .before .before .before .before .args in
+    let s = i .before .content .result .now in
+    let kind = c .before .before .before .before .before .kind-of .ensures ∙ ap kindOf (c .before .before .before .before .before .before .word .ensures) in
+    let form = c .before .before .before .before .form-of .ensures ∙ ap formOf kind in
+    let verdict = ap (λ (f : Form). verdictOf f s) (sym form) ∙ sym (c .before .before .before .verdict-of .ensures) ∙ c .before .verdict .given .1 in
+    let line = wrong-line (a .line .now) s (i .before .content .ensures) (i .if1 .left) _ verdict in
+    (line .0, nothing (a .room .now) .1 ∙ ap (λ (l : List ℕ). startingWith l (a .room .now)) (line .1))
+
+enum-told : tie.Need-enum-told
+enum-told c = search needs
+
+put-record-requires : tie.Need-put-record-requires
+put-record-requires c κs =
+    let i = c .before .before .before .before .before .before .before in
+    let a = i .before .before .before .before .args in
+    let most = content-most (a .line .now) in
+    rw (i .before .content .ensures) (omega arith)
+
+said-requires : tie.Need-said-requires
+said-requires c κs = search needs
+
+same-length : tie.Need-same-length
+same-length c = search needs
+
+returns-3 : tie.Need-returns-3
+returns-3 c =
+    let i = c .before .before .before .before .before .before .before .before .before .before .before in
+    let a = i .before .before .before .before .args in
+    let s = i .before .content .result .now in
+    let kind = c .before .before .before .before .before .before .before .before .before .kind-of .ensures ∙ ap kindOf (c .before .before .before .before .before .before .before .before .before .before .word .ensures) in
+    let form = c .before .before .before .before .before .before .before .before .form-of .ensures ∙ ap formOf kind in
+    let verdict = ap (λ (f : Form). verdictOf f s) (sym form) ∙ sym (c .before .before .before .before .before .before .before .verdict-of .ensures) ∙ c .before .before .before .before .before .enum-told .given .1 in
+    let line = sound-line (a .line .now) s (i .before .content .ensures) (i .if1 .left) verdict in (
+      c .said .ensures ∙ ap (λ (k : Kind). saidBy k s) kind ∙ line .0,
+      c .before .before .before .put-record .ensures ∙ ap (λ (l : List ℕ). startingWith l (a .room .now)) (ap (λ (f : Form). recordBy f s) form ∙ line .1),
+    )
+
+pub parse-spec : {M : Type 1} → statement M
+parse-spec =
+    tie.close
+    (tie.spec
+    content-requires
+    returns
+    word-requires
+    kind-of-requires
+    form-of-requires
+    verdict-of-requires
+    enum-known-verdict
+    returns-2
+    enum-told
+    put-record-requires
+    said-requires
+    same-length
+    returns-3)

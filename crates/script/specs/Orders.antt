@@ -1,0 +1,76 @@
+-- A journal's line: what it says, and the record that a plan brings.
+use mathlib.Core.Bool.{cond}
+use mathlib.Core.List.{List, [], _∷_}
+use Prim.Native.Nat.{ℕ}
+use lib.Dec.{leb}
+use lib.ListN.{length}
+use Rattle.words.specs.Words.{content, wordAt}
+use Rattle.words.specs.Numbers.{wideAt, narrowAt}
+use Rattle.words.specs.Hex.{bytesOf}
+use Rattle.units.specs.Volume.{volume, price}
+use Rattle.calendar.specs.declared.Stamp.{Stamp}
+use Rattle.script.specs.declared.Form.{Form}
+use Rattle.script.specs.declared.Kind.{Kind}
+use Rattle.script.specs.declared.Kind.the-variants as kind
+use Rattle.script.specs.declared.Verdict.{Verdict}
+use Rattle.script.specs.declared.Verdict.the-variants.{Sound, Fault}
+use Rattle.script.specs.declared.Order.{Order}
+use Rattle.script.specs.declared.Order.the-variants.{Nothing, Pulses, Recharge, Load, Alarms, Command, Key, Tick, Step, Display, Day, Month, Heavy, Show, Wrong}
+use Rattle.script.specs.Kinds.{kindOf, formOf}
+use Rattle.script.specs.Faults.{verdictOf}
+
+-- DATE SECOND: the first two numbers of a call
+unfoldable pub stampIn : List ℕ → Stamp
+stampIn s = record { date = narrowAt s 1; second = narrowAt s 2 }
+
+-- what a content without a fault says
+unfoldable pub saidBy : Kind → List ℕ → Order
+saidBy kind.Pulse s = Pulses (record { stamp = stampIn s; count = volume (narrowAt s 3) })
+saidBy kind.Recharge s = Recharge (record { stamp = stampIn s; amount = price (wideAt s 3); serial = narrowAt s 4 })
+saidBy kind.Plan s = Load (record { stamp = stampIn s; slot = narrowAt s 3 }) (length (bytesOf (wordAt s 4)))
+saidBy kind.Alarms s = Alarms (record { stamp = stampIn s; one = narrowAt s 3; two = narrowAt s 4 })
+saidBy kind.Command s = Command (record { stamp = stampIn s; code = narrowAt s 3 })
+saidBy kind.Key s = Key (record { stamp = stampIn s })
+saidBy kind.Tick s = Tick (record { stamp = stampIn s })
+saidBy kind.Step s = Step
+saidBy kind.Display s = Display
+saidBy kind.Day s = Day (wideAt s 1)
+saidBy kind.Month s = Month (wideAt s 1)
+saidBy kind.Heavy s = Heavy (volume (narrowAt s 1))
+saidBy kind.Show s = Show
+saidBy kind.Unknown s = Wrong 1
+
+-- the record of a plan, the word behind its numbers; any other line has none
+unfoldable pub recordBy : Form → List ℕ → List ℕ
+recordBy f s = cond (leb (f .words) (f .numbers)) [] (bytesOf (wordAt s (f .words)))
+
+abbrev pub orderBy : Verdict → Kind → List ℕ → Order
+orderBy Sound k s = saidBy k s
+orderBy (Fault n) k s = Wrong n
+
+abbrev pub bytesBy : Verdict → Kind → List ℕ → List ℕ
+bytesBy Sound k s = recordBy (formOf k) s
+bytesBy (Fault n) k s = []
+
+-- the same of a content: an empty one says nothing
+abbrev pub kindIn : List ℕ → Kind
+kindIn s = kindOf (wordAt s 0)
+
+abbrev pub verdictIn : List ℕ → Verdict
+verdictIn s = verdictOf (formOf (kindIn s)) s
+
+unfoldable pub orderIn : List ℕ → Order
+orderIn [] = Nothing
+orderIn (x ∷ l) = orderBy (verdictIn (x ∷ l)) (kindIn (x ∷ l)) (x ∷ l)
+
+unfoldable pub recordIn : List ℕ → List ℕ
+recordIn [] = []
+recordIn (x ∷ l) = bytesBy (verdictIn (x ∷ l)) (kindIn (x ∷ l)) (x ∷ l)
+
+-- WHAT A LINE SAYS
+unfoldable pub orderOf : List ℕ → Order
+orderOf line = orderIn (content line)
+
+-- THE RECORD IN IT
+unfoldable pub recordOf : List ℕ → List ℕ
+recordOf line = recordIn (content line)

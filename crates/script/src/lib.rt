@@ -1,0 +1,314 @@
+// A journal of calls as plain text, one call to a line: what a line says, or what is wrong with it.
+use calendar::Stamp;
+use meter::Alarms;
+use meter::Command;
+use meter::Key;
+use meter::Load;
+use meter::Pulses;
+use meter::Recharge;
+use meter::Tick;
+use units::Hundredths;
+use units::TenThousandths;
+ghost use mathlib.Core.Path.{_≡_};
+ghost use Prim.Native.Nat.{_*_, _≤_};
+ghost use lib.ListN.{length};
+ghost use Rattle.text.specs.Decimal.{startingWith};
+ghost use Rattle.script.specs.Kinds.{questionOf, kindOf, plain, formOf};
+ghost use Rattle.script.specs.Faults.{verdictOf, faultText};
+ghost use Rattle.script.specs.Orders.{stampIn, saidBy, recordBy, orderOf, recordOf};
+
+// What a first word asks for.
+pub enum Kind {
+    Pulse,
+    Recharge,
+    Plan,
+    Alarms,
+    Command,
+    Key,
+    Tick,
+    Step,
+    Display,
+    Day,
+    Month,
+    Heavy,
+    Show,
+    Unknown,
+}
+
+// How a line is made: whether its first word is known, how many words follow it, and how many of
+// these are decimal numbers. The one behind them is the record of a plan.
+pub struct Form {
+    pub known: bool,
+    pub words: usize,
+    pub numbers: usize,
+}
+
+pub enum Verdict {
+    Sound,
+    Fault(u8),
+}
+
+// What a line says. The record of a plan stands at the start of a lent buffer; its length is beside
+// `Load`. `Wrong` has the fault's number.
+pub enum Order {
+    Nothing,
+    Pulses(Pulses),
+    Recharge(Recharge),
+    Load(Load, usize),
+    Alarms(Alarms),
+    Command(Command),
+    Key(Key),
+    Tick(Tick),
+    Step,
+    Display,
+    Day(usize),
+    Month(usize),
+    Heavy(Hundredths),
+    Show,
+    Wrong(u8),
+}
+
+fn question_of(w: &[u8]) -> Kind
+    ensures { λ r. ⌜ r ≡ questionOf (now (w .entry)) ⌝ }
+{
+    if words::same(w, b"step") {
+        return Kind::Step;
+    }
+    if words::same(w, b"display") {
+        return Kind::Display;
+    }
+    if words::same(w, b"day") {
+        return Kind::Day;
+    }
+    if words::same(w, b"month") {
+        return Kind::Month;
+    }
+    if words::same(w, b"heavy") {
+        return Kind::Heavy;
+    }
+    if words::same(w, b"show") {
+        return Kind::Show;
+    }
+    Kind::Unknown
+}
+
+fn kind_of(w: &[u8]) -> Kind
+    ensures { λ r. ⌜ r ≡ kindOf (now (w .entry)) ⌝ }
+{
+    if words::same(w, b"pulse") {
+        return Kind::Pulse;
+    }
+    if words::same(w, b"recharge") {
+        return Kind::Recharge;
+    }
+    if words::same(w, b"plan") {
+        return Kind::Plan;
+    }
+    if words::same(w, b"alarms") {
+        return Kind::Alarms;
+    }
+    if words::same(w, b"command") {
+        return Kind::Command;
+    }
+    if words::same(w, b"key") {
+        return Kind::Key;
+    }
+    if words::same(w, b"tick") {
+        return Kind::Tick;
+    }
+    question_of(w)
+}
+
+// So many numbers behind the first word, and nothing else.
+fn plain(numbers: usize) -> Form
+    ensures { λ r. ⌜ r ≡ plain numbers ⌝ }
+{
+    Form {
+        known: true,
+        words: numbers,
+        numbers,
+    }
+}
+
+fn form_of(kind: Kind) -> Form
+    ensures { λ r. ⌜ r ≡ formOf kind ⌝ }
+{
+    match kind {
+        Kind::Pulse => plain(3),
+        Kind::Recharge => plain(4),
+        Kind::Plan => Form {
+            known: true,
+            words: 4,
+            numbers: 3,
+        },
+        Kind::Alarms => plain(4),
+        Kind::Command => plain(3),
+        Kind::Key => plain(2),
+        Kind::Tick => plain(2),
+        Kind::Step => plain(0),
+        Kind::Display => plain(0),
+        Kind::Day => plain(1),
+        Kind::Month => plain(1),
+        Kind::Heavy => plain(1),
+        Kind::Show => plain(0),
+        Kind::Unknown => Form {
+            known: false,
+            words: 0,
+            numbers: 0,
+        },
+    }
+}
+
+// The first fault of a content.
+fn verdict_of(f: Form, s: &[u8]) -> Verdict
+    ensures { λ r. ⌜ r ≡ verdictOf f (now (s .entry)) ⌝ }
+{
+    if words::has_gap(s) {
+        return Verdict::Fault(5);
+    }
+    if !f.known {
+        return Verdict::Fault(1);
+    }
+    if words::words_behind(s) != f.words {
+        return Verdict::Fault(2);
+    }
+    if !words::are_numbers(s, f.numbers) {
+        return Verdict::Fault(3);
+    }
+    if f.words <= f.numbers {
+        return Verdict::Sound;
+    }
+    if !words::is_hex(words::word(s, f.words)) {
+        return Verdict::Fault(4);
+    }
+    Verdict::Sound
+}
+
+fn stamp_in(s: &[u8]) -> Stamp
+    ensures { λ r. ⌜ r ≡ stampIn (now (s .entry)) ⌝ }
+{
+    Stamp {
+        date: words::narrow_at(s, 1),
+        second: words::narrow_at(s, 2),
+    }
+}
+
+// What a content says that is a call with more than its stamp.
+fn pulses_in(s: &[u8]) -> Order
+    ensures { λ r. ⌜ r ≡ saidBy Kind.Pulse (now (s .entry)) ⌝ }
+{
+    Order::Pulses(Pulses {
+        stamp: stamp_in(s),
+        count: Hundredths(words::narrow_at(s, 3)),
+    })
+}
+
+fn recharge_in(s: &[u8]) -> Order
+    ensures { λ r. ⌜ r ≡ saidBy Kind.Recharge (now (s .entry)) ⌝ }
+{
+    Order::Recharge(Recharge {
+        stamp: stamp_in(s),
+        amount: TenThousandths(words::wide_at(s, 3)),
+        serial: words::narrow_at(s, 4),
+    })
+}
+
+fn alarms_in(s: &[u8]) -> Order
+    ensures { λ r. ⌜ r ≡ saidBy Kind.Alarms (now (s .entry)) ⌝ }
+{
+    Order::Alarms(Alarms {
+        stamp: stamp_in(s),
+        one: words::narrow_at(s, 3),
+        two: words::narrow_at(s, 4),
+    })
+}
+
+fn command_in(s: &[u8]) -> Order
+    ensures { λ r. ⌜ r ≡ saidBy Kind.Command (now (s .entry)) ⌝ }
+{
+    Order::Command(Command {
+        stamp: stamp_in(s),
+        code: words::narrow_at(s, 3),
+    })
+}
+
+fn load_in(s: &[u8]) -> Order
+    ensures { λ r. ⌜ r ≡ saidBy Kind.Plan (now (s .entry)) ⌝ }
+{
+    let bytes = words::word(s, 4).len() / 2;
+    Order::Load(
+        Load {
+            stamp: stamp_in(s),
+            slot: words::narrow_at(s, 3),
+        },
+        bytes,
+    )
+}
+
+// What a content without a fault says.
+fn said(kind: Kind, s: &[u8]) -> Order
+    ensures { λ r. ⌜ r ≡ saidBy kind (now (s .entry)) ⌝ }
+{
+    match kind {
+        Kind::Pulse => pulses_in(s),
+        Kind::Recharge => recharge_in(s),
+        Kind::Plan => load_in(s),
+        Kind::Alarms => alarms_in(s),
+        Kind::Command => command_in(s),
+        Kind::Key => Order::Key(Key { stamp: stamp_in(s) }),
+        Kind::Tick => Order::Tick(Tick { stamp: stamp_in(s) }),
+        Kind::Step => Order::Step,
+        Kind::Display => Order::Display,
+        Kind::Day => Order::Day(words::wide_at(s, 1) as usize),
+        Kind::Month => Order::Month(words::wide_at(s, 1) as usize),
+        Kind::Heavy => Order::Heavy(Hundredths(words::narrow_at(s, 1))),
+        Kind::Show => Order::Show,
+        Kind::Unknown => Order::Wrong(1),
+    }
+}
+
+// The record of a plan, put at the start of the buffer.
+fn put_record(f: Form, s: &[u8], room: &mut [u8])
+    requires { ⌜ length (now s) ≤ 2 * length (now room) ⌝ }
+    ensures { λ _. ⌜ now (room .exit) ≡ startingWith (recordBy f (now (s .entry))) (now (room .entry)) ⌝ }
+{
+    if f.words <= f.numbers {
+        return;
+    }
+    words::put_pairs(words::word(s, f.words), room);
+}
+
+// WHAT A LINE SAYS; the record of a plan stands then at the start of the buffer.
+pub fn parse(line: &[u8], room: &mut [u8]) -> Order
+    requires { ⌜ length (now line) ≤ 2 * length (now room) ⌝ }
+    ensures { λ r. ⌜ (r ≡ orderOf (now (line .entry))) × (now (room .exit) ≡ startingWith (recordOf (now (line .entry))) (now (room .entry))) ⌝ }
+{
+    let s = words::content(line);
+    if s.len() == 0 {
+        return Order::Nothing;
+    }
+    let kind = kind_of(words::word(s, 0));
+    let form = form_of(kind);
+    let verdict = verdict_of(form, s);
+    if let Verdict::Fault(n) = verdict {
+        return Order::Wrong(n);
+    }
+    put_record(form, s, room);
+    said(kind, s)
+}
+
+// The text of a fault.
+pub fn put_fault(n: u8, out: &mut [u8]) -> usize
+    requires { ⌜ 64 ≤ length (now out) ⌝ }
+    ensures { λ r. ⌜ (r ≡ length (faultText n)) × (r ≤ 64) × (now (out .exit) ≡ startingWith (faultText n) (now (out .entry))) ⌝ }
+{
+    match n {
+        1 => text::put_bytes(b"unknown first word", out),
+        2 => text::put_bytes(b"wrong number of words", out),
+        3 => text::put_bytes(b"not a decimal number", out),
+        4 => text::put_bytes(b"not pairs of hexadecimal digits", out),
+        5 => text::put_bytes(b"two spaces together or a space in front", out),
+        6 => text::put_bytes(b"line longer than 65,535 bytes", out),
+        _ => 0,
+    }
+}

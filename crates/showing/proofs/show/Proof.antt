@@ -1,0 +1,52 @@
+-- The lines are put one behind another.
+use native.Mathlib.Omega.{arith}
+use borrow.Author.Needs.{needs}
+use Rattle.showing.specs.Show.{showLines}
+use Rattle.place.proofs.Placed.{then, first}
+use Rattle.showing.proofs.show.Statement.{statement}
+use Rattle.showing.proofs.show.Tie as tie
+
+step-requires : tie.Need-step-requires
+step-requires c κs = search needs
+
+balance-at-requires : tie.Need-balance-at-requires
+balance-at-requires c κs = search needs
+
+usage-at-requires : tie.Need-usage-at-requires
+usage-at-requires c κs = search needs
+
+step-at-requires : tie.Need-step-at-requires
+step-at-requires c κs = search needs
+
+valve-at-requires : tie.Need-valve-at-requires
+valve-at-requires c κs = search needs
+
+day-at-requires : tie.Need-day-at-requires
+day-at-requires c κs = search needs
+
+same-length : tie.Need-same-length
+same-length c = search needs
+
+returns : tie.Need-returns
+unfolding showLines
+returns c =
+    let d = c .before .before in
+    let v = d .before .before .before .before in
+    let s = v .before .before .before .before in
+    let u = s .before .before .before .before in
+    let b = u .before .before .before .before in
+    let g = first (then (b .balance-at .ensures .0) (then (u .usage-at .ensures .0) (then (s .step-at .ensures .0) (then (v .valve-at .ensures .0) (d .day-at .ensures .0))))) in
+    rw (← b .before .before .step .ensures) (g .0, omega arith, g .1)
+
+pub show-spec : {M : Type 1} → statement M
+show-spec =
+    tie.close
+    (tie.spec
+    step-requires
+    balance-at-requires
+    usage-at-requires
+    step-at-requires
+    valve-at-requires
+    day-at-requires
+    same-length
+    returns)
