@@ -1,6 +1,7 @@
 #!/bin/sh
-# Tests the C library as a host meets it: builds it, runs the example host, compares the ABI of the header with that of
-# the model's program, and runs random lists of calls through the library and the model of document 01 (tests/model).
+# Tests the C library as a host meets it: builds it, runs the example host and replay's example, compares the ABI of the
+# header with that of the model's program, and runs random lists of calls through the library and the model of document 01
+# (tests/model).
 # Run from the repository's root. Ends with `library: passed`, or exits 1.
 set -u
 
@@ -30,6 +31,11 @@ c_compile examples/one_day.c "$library" -o "$out/one_day" || fail "examples/one_
 "$out/one_day" >"$out/one_day.out" || fail "examples/one_day.c exits with $?"
 diff examples/one_day.expected "$out/one_day.out" || fail "examples/one_day.c prints something else"
 echo "library: the example host prints what is expected"
+
+rt check replay >"$out/replay.log" 2>&1 || fail "rt check replay, see $out/replay.log"
+target/bin/replay <examples/midnight.journal >"$out/midnight.out" || fail "replay exits with $?"
+diff examples/midnight.expected "$out/midnight.out" || fail "replay prints something else for examples/midnight.journal"
+echo "library: replay prints what is expected for the midnight of the ticket"
 
 c_compile tests/abi.c -o "$out/abi" || fail "tests/abi.c does not compile"
 rustc --edition 2021 -O tests/model/main.rs -o "$out/model" -C link-arg="$library" ||

@@ -67,10 +67,10 @@ unfoldable pub recordIn : List ℕ → List ℕ
 recordIn [] = []
 recordIn (x ∷ l) = bytesBy (verdictIn (x ∷ l)) (kindIn (x ∷ l)) (x ∷ l)
 
--- WHAT A LINE SAYS
+-- what a line says
 unfoldable pub orderOf : List ℕ → Order
 orderOf line = orderIn (content line)
 
--- THE RECORD IN IT
+-- the record in it
 unfoldable pub recordOf : List ℕ → List ℕ
 recordOf line = recordIn (content line)

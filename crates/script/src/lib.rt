@@ -14,7 +14,7 @@ ghost use Prim.Native.Nat.{_*_, _≤_};
 ghost use lib.ListN.{length};
 ghost use Rattle.text.specs.Decimal.{startingWith};
 ghost use Rattle.script.specs.Kinds.{questionOf, kindOf, plain, formOf};
-ghost use Rattle.script.specs.Faults.{verdictOf, faultText};
+ghost use Rattle.script.specs.Faults.{verdictOf};
 ghost use Rattle.script.specs.Orders.{stampIn, saidBy, recordBy, orderOf, recordOf};
 
 // What a first word asks for.
@@ -295,20 +295,4 @@ pub fn parse(line: &[u8], room: &mut [u8]) -> Order
     }
     put_record(form, s, room);
     said(kind, s)
-}
-
-// The text of a fault.
-pub fn put_fault(n: u8, out: &mut [u8]) -> usize
-    requires { ⌜ 64 ≤ length (now out) ⌝ }
-    ensures { λ r. ⌜ (r ≡ length (faultText n)) × (r ≤ 64) × (now (out .exit) ≡ startingWith (faultText n) (now (out .entry))) ⌝ }
-{
-    match n {
-        1 => text::put_bytes(b"unknown first word", out),
-        2 => text::put_bytes(b"wrong number of words", out),
-        3 => text::put_bytes(b"not a decimal number", out),
-        4 => text::put_bytes(b"not pairs of hexadecimal digits", out),
-        5 => text::put_bytes(b"two spaces together or a space in front", out),
-        6 => text::put_bytes(b"line longer than 65,535 bytes", out),
-        _ => 0,
-    }
 }
