@@ -1,0 +1,106 @@
+/*
+ * The stack that each call takes: it runs in a thread whose stack was filled with a pattern, and the deepest byte that
+ * changed is looked for. An empty call is measured too and taken off. Built and run by bench/stack.sh.
+ */
+#define _GNU_SOURCE
+#include <pthread.h>
+#include <stdio.h>
+#include <stdlib.h>
+#include <string.h>
+
+#include "harpdapple.h"
+
+enum { STACK = 256 * 1024, PATTERN = 0xA5 };
+
+static const uint8_t plan_a[HARPDAPPLE_RECORD_BYTES] = {
+    0x20, 0x20, 0x01, 0x01, 0x20, 0x21, 0x01, 0x01, 2,    1,    0,    0,    0,    0,    0, 0, 0,
+    0,    0,    0,    0x25, 0,    0,    0x02, 0x60, 0,    0x99, 0x99, 0x99, 0x99, 0,    3, 0x15, 0};
+
+static struct harpdapple_meter meter;
+static const struct harpdapple_stamp today = {20200115, 0};
+static const struct harpdapple_stamp later = {20200201, 0};
+
+static void *nothing(void *p) { return p; }
+
+static void *pulses(void *p) {
+    harpdapple_pulses(&meter, (struct harpdapple_pulses_call){today, 1});
+    return p;
+}
+
+static void *turning_pulses(void *p) {
+    harpdapple_pulses(&meter, (struct harpdapple_pulses_call){later, 1});
+    return p;
+}
+
+static void *recharge(void *p) {
+    harpdapple_recharge(&meter, (struct harpdapple_recharge_call){later, 1, 2});
+    return p;
+}
+
+static void *load(void *p) {
+    harpdapple_load(&meter, (struct harpdapple_load_call){later, 2}, plan_a, sizeof plan_a);
+    return p;
+}
+
+static void *alarms(void *p) {
+    harpdapple_alarms(&meter, (struct harpdapple_alarms_call){later, 20, 5});
+    return p;
+}
+
+static void *command(void *p) {
+    harpdapple_command(&meter, (struct harpdapple_command_call){later, 1});
+    return p;
+}
+
+static void *key(void *p) {
+    harpdapple_key(&meter, (struct harpdapple_key_call){later});
+    return p;
+}
+
+static void *tick(void *p) {
+    harpdapple_tick(&meter, (struct harpdapple_tick_call){later});
+    return p;
+}
+
+static void *display(void *p) {
+    harpdapple_display(&meter);
+    return p;
+}
+
+static size_t used(void *(*call)(void *)) {
+    unsigned char *stack = aligned_alloc(4096, STACK);
+    pthread_attr_t attr;
+    pthread_t thread;
+    size_t i = 0;
+
+    if (stack == NULL) exit(1);
+    memset(stack, PATTERN, STACK);
+    if (pthread_attr_init(&attr) || pthread_attr_setstack(&attr, stack, STACK) ||
+        pthread_create(&thread, &attr, call, NULL) || pthread_join(thread, NULL)) {
+        exit(1);
+    }
+    while (i < STACK && stack[i] == PATTERN) i++;
+    free(stack);
+    return STACK - i;
+}
+
+int main(void) {
+    static const struct {
+        const char *name;
+        void *(*call)(void *);
+    } calls[] = {{"pulse call, same day", pulses},   {"pulse call, new month", turning_pulses},
+                 {"recharge", recharge},             {"load of a plan", load},
+                 {"alarms", alarms},                 {"command", command},
+                 {"key", key},                       {"tick", tick},
+                 {"display", display}};
+    size_t none = used(nothing);
+
+    printf("a meter has %zu bytes\n", sizeof meter);
+    for (size_t i = 0; i < sizeof calls / sizeof calls[0]; i++) {
+        meter = harpdapple_fresh();
+        harpdapple_load(&meter, (struct harpdapple_load_call){today, 1}, plan_a, sizeof plan_a);
+        harpdapple_recharge(&meter, (struct harpdapple_recharge_call){today, 1000000, 1});
+        printf("%-24s %6zu bytes of stack\n", calls[i].name, used(calls[i].call) - none);
+    }
+    return 0;
+}
