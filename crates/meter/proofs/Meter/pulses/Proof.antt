@@ -1,8 +1,12 @@
 -- The refusals in their order, then the turn where the day turns, then the pulses.
 use mathlib.Core.Path.{_≡_, refl, sym, ap, _∙_}
-use Rattle.account.specs.Codes.{noteAll}
+use mathlib.Core.Logic.{_⊎_, ⊎-elim}
+use Rattle.account.specs.Codes.{noCodes, noteAll}
 use Rattle.answer.specs.declared.Answer.the-variants.{Accepted}
 use Rattle.slots.specs.World.{real}
+use Rattle.meter.specs.declared.Meter.{Meter}
+use Rattle.meter.specs.Meter.{withClock}
+use Rattle.meter.specs.Turn.{turn, turnCodes}
 use Rattle.meter.specs.Machine.{declinedOf, deniedOf}
 use Rattle.meter.specs.Call.{pulses as call}
 use Rattle.meter.specs.Refusals.{stampRefusal, ownRefusal}
@@ -61,51 +65,43 @@ returns-2 c =
 none-requires : tie.Need-none-requires
 none-requires c κs = search needs
 
+turn-requires : tie.Need-turn-requires
+turn-requires c κs =
+    let m = c .before .before .before .before .before .before .before .before .before .before .before .before .before .args .self in
+    let s = c .before .before .before .before .before .before .before .before .before .before .before .before .before .args .p .stamp in
+    let a : stampRefusal real m s ≡ Accepted = admitted m s _ (sym (c .before .before .before .before .before .before .before .before .before .before .before .admit .ensures) ∙ c .before .before .before .before .before .before .before .before .before .enum-told .given .1) .0 in
+    let b = admitted-bounds m s a in
+    (b .0, b .1)
+
+-- whether the day turned or not, the meter is the turned one but for its clock, and the codes are those of the turn
+joined : (c : tie.Joined1) → (withClock (c .if1 .m) (c .before .before .before .before .before .before .before .before .before .before .before .before .before .args .p .stamp) ≡ turn real (c .before .before .before .before .before .before .before .before .before .before .before .before .before .args .self) (c .before .before .before .before .before .before .before .before .before .before .before .before .before .args .p .stamp)) × (c .if1 .codes ≡ noteAll noCodes (turnCodes real (c .before .before .before .before .before .before .before .before .before .before .before .before .before .args .self) (c .before .before .before .before .before .before .before .before .before .before .before .before .before .args .p .stamp)))
+unfolding noteAll
+joined c =
+    let m = c .before .before .before .before .before .before .before .before .before .before .before .before .before .args .self in
+    let s = c .before .before .before .before .before .before .before .before .before .before .before .before .before .args .p .stamp in
+    ⊎-elim
+    (λ w. (ap (λ (x : Meter). withClock x s) (w .4 ∙ w .1 .ensures .0) ∙ clock-set m s, w .5 ∙ w .1 .ensures .1))
+    (λ w. (ap (λ (x : Meter). withClock x s) (w .1) ∙ sym (same-day m s (w .0 .left)), w .2 ∙ c .before .before .before .none .ensures ∙ sym (ap (noteAll noCodes) (same-day-codes m s (w .0 .left)))))
+    (c .if1 .came)
+
 pulsed-requires : tie.Need-pulsed-requires
 pulsed-requires c κs =
     let m = c .before .before .before .before .before .before .before .before .before .before .before .before .before .args .self in
     let p = c .before .before .before .before .before .before .before .before .before .before .before .before .before .args .p in
     let a : stampRefusal real m (p .stamp) ≡ Accepted = admitted m (p .stamp) _ (sym (c .before .before .before .before .before .before .before .before .before .before .before .admit .ensures) ∙ c .before .before .before .before .before .before .before .before .before .enum-told .given .1) .0 in
     let f = pulses-fit m (p .stamp) (p .count .0) (sym (c .before .before .before .before .before .before .vet .ensures) ∙ c .before .before .before .before .enum-told3 .given .1) in
-    (rw (same-day m (p .stamp) (c .before .if1 .taken)) at (turned-good m (p .stamp) a), rw (same-day m (p .stamp) (c .before .if1 .taken)) at f)
+    (rw (joined c .0) (turned-good m (p .stamp) a), rw (sym (joined c .0)) at f)
 
 returns-3 : tie.Need-returns-3
-unfolding ownRefusal effectOf codesOf noteAll
+unfolding ownRefusal effectOf codesOf
 returns-3 c =
     let m = c .before .before .before .before .before .before .before .before .before .before .before .before .before .before .args .self in
     let p = c .before .before .before .before .before .before .before .before .before .before .before .before .before .before .args .p in
     let a : stampRefusal real m (p .stamp) ≡ Accepted = admitted m (p .stamp) _ (sym (c .before .before .before .before .before .before .before .before .before .before .before .before .admit .ensures) ∙ c .before .before .before .before .before .before .before .before .before .before .enum-told .given .1) .0 in
-    let e = same-day m (p .stamp) (c .before .before .if1 .taken) in
     c .pulsed .ensures
     ∙ accepts m (call p) a (sym (c .before .before .before .before .before .before .before .vet .ensures) ∙ c .before .before .before .before .before .enum-told3 .given .1)
-    (rw e)
-    (rw (c .before .none .ensures, same-day-codes m (p .stamp) (c .before .before .if1 .taken), e))
-
-turn-requires : tie.Need-turn-requires
-turn-requires c κs =
-    let m = c .before .before .before .before .before .before .before .before .before .before .before .before .args .self in
-    let s = c .before .before .before .before .before .before .before .before .before .before .before .before .args .p .stamp in
-    let a : stampRefusal real m s ≡ Accepted = admitted m s _ (sym (c .before .before .before .before .before .before .before .before .before .before .admit .ensures) ∙ c .before .before .before .before .before .before .before .before .enum-told .given .1) .0 in
-    let b = admitted-bounds m s a in
-    (b .0, b .1)
-
-pulsed-requires-2 : tie.Need-pulsed-requires-2
-pulsed-requires-2 c κs =
-    let m = c .before .before .before .before .before .before .before .before .before .before .before .before .before .before .args .self in
-    let p = c .before .before .before .before .before .before .before .before .before .before .before .before .before .before .args .p in
-    let a : stampRefusal real m (p .stamp) ≡ Accepted = admitted m (p .stamp) _ (sym (c .before .before .before .before .before .before .before .before .before .before .before .before .admit .ensures) ∙ c .before .before .before .before .before .before .before .before .before .before .enum-told .given .1) .0 in
-    rw (c .before .turn .ensures .0, clock-set m (p .stamp)) (turned-good m (p .stamp) a, pulses-fit m (p .stamp) (p .count .0) (sym (c .before .before .before .before .before .before .before .vet .ensures) ∙ c .before .before .before .before .before .enum-told3 .given .1))
-
-returns-4 : tie.Need-returns-4
-unfolding ownRefusal effectOf codesOf
-returns-4 c =
-    let m = c .before .before .before .before .before .before .before .before .before .before .before .before .before .before .before .args .self in
-    let p = c .before .before .before .before .before .before .before .before .before .before .before .before .before .before .before .args .p in
-    let a : stampRefusal real m (p .stamp) ≡ Accepted = admitted m (p .stamp) _ (sym (c .before .before .before .before .before .before .before .before .before .before .before .before .before .admit .ensures) ∙ c .before .before .before .before .before .before .before .before .before .before .before .enum-told .given .1) .0 in
-    c .pulsed2 .ensures
-    ∙ accepts m (call p) a (sym (c .before .before .before .before .before .before .before .before .vet .ensures) ∙ c .before .before .before .before .before .before .enum-told3 .given .1)
-    (rw (c .before .before .turn .ensures .0, clock-set m (p .stamp)))
-    (rw (c .before .before .turn .ensures .1, c .before .before .turn .ensures .0, clock-set m (p .stamp)))
+    (rw (joined (c .before) .0))
+    (rw (joined (c .before) .1, joined (c .before) .0))
 
 pub pulses-spec : {M : Type 1} → statement M
 pulses-spec =
@@ -122,8 +118,6 @@ pulses-spec =
     denied-requires
     returns-2
     none-requires
-    pulsed-requires
-    returns-3
     turn-requires
-    pulsed-requires-2
-    returns-4)
+    pulsed-requires
+    returns-3)
