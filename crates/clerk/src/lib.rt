@@ -5,9 +5,16 @@ use answer::Answer;
 use desk::Desk;
 use desk::Played;
 use meter::Done;
+use meter::Meter;
 use script::Order;
-ghost use Prim.Native.Nat.{_*_, _≤_};
-ghost use lib.ListN.{length};
+ghost use mathlib.Core.Path.{_≡_};
+ghost use mathlib.Core.List.{List};
+ghost use Prim.Native.Nat.{ℕ, _*_, _≤_};
+ghost use lib.ListN.{length, take};
+ghost use Rattle.text.specs.Decimal.{startingWith};
+ghost use Rattle.script.specs.Orders.{orderOf, recordOf};
+ghost use Rattle.clerk.specs.Clerk.{deskAfter, Answers};
+ghost use Rattle.clerk.specs.Parts.{calledBy, Said};
 
 // The desk after a line, and the length of the answer.
 pub struct Worked {
@@ -16,29 +23,19 @@ pub struct Worked {
 }
 
 // A record's bytes: the first n of those that the line's reader left in `room`.
-fn record_in(room: &[u8], n: usize) -> &[u8] {
+fn record_in(room: &[u8], n: usize) -> &[u8]
+    ensures { λ r. ⌜ now r ≡ take n (now (room .entry)) ⌝ }
+{
     if n < room.len() {
         return &room[..n];
     }
     room
 }
 
-// Whether the line is a call.
-fn is_call(order: Order) -> bool {
-    match order {
-        Order::Pulses(_) => true,
-        Order::Recharge(_) => true,
-        Order::Load(_, _) => true,
-        Order::Alarms(_) => true,
-        Order::Command(_) => true,
-        Order::Key(_) => true,
-        Order::Tick(_) => true,
-        _ => false,
-    }
-}
-
 // A call on the desk; what is no call leaves it as it is.
-fn called(desk: Desk, order: Order, room: &[u8]) -> Played {
+fn called(desk: Desk, order: Order, room: &[u8]) -> Played
+    ensures { λ r. ⌜ r ≡ calledBy desk order (now (room .entry)) ⌝ }
+{
     match order {
         Order::Pulses(p) => desk.pulses(p),
         Order::Recharge(p) => desk.recharge(p),
@@ -57,23 +54,13 @@ fn called(desk: Desk, order: Order, room: &[u8]) -> Played {
     }
 }
 
-fn told(p: Played, out: &mut [u8]) -> Worked
+// The answer to a question on the meter, to a line that is wrong, to one that says nothing, and to a
+// call by what it did.
+fn answered(m: Meter, number: u64, order: Order, done: Done, out: &mut [u8]) -> usize
     requires { ⌜ 320 ≤ length (now out) ⌝ }
-    ensures { λ r. ⌜ r .length ≤ 320 ⌝ }
+    ensures { λ r. ⌜ (r ≤ 320) × ((text : List ℕ) × Said m number order done text × (r ≡ length text) × (now (out .exit) ≡ startingWith text (now (out .entry)))) ⌝ }
 {
-    let done = p.done;
-    let desk = p.desk;
-    let length = report::call_line(done, out);
-    Worked { desk, length }
-}
-
-// The answer to a question, to a line that is wrong, and to one that says nothing; the desk stays.
-fn asked(desk: Desk, number: u64, order: Order, out: &mut [u8]) -> Worked
-    requires { ⌜ 320 ≤ length (now out) ⌝ }
-    ensures { λ r. ⌜ r .length ≤ 320 ⌝ }
-{
-    let m = desk.meter;
-    let length = match order {
+    match order {
         Order::Step => report::step_line(query::step(m), out),
         Order::Display => report::display_line(query::display(m), out),
         Order::Day(k) => report::record_line(query::day(m, k), out),
@@ -81,20 +68,25 @@ fn asked(desk: Desk, number: u64, order: Order, out: &mut [u8]) -> Worked
         Order::Heavy(v) => report::heavy_line(query::heavy(m, v), out),
         Order::Show => showing::show(m, out),
         Order::Wrong(k) => report::error_line(number, k, out),
-        _ => 0,
-    };
-    Worked { desk, length }
+        Order::Nothing => 0,
+        _ => report::call_line(done, out),
+    }
 }
 
+// Works a line: the desk after it, and its answer at the start of `out`.
 pub fn work(desk: Desk, number: u64, line: &[u8], room: &mut [u8], out: &mut [u8]) -> Worked
     requires { ⌜ length (now line) ≤ 2 * length (now room) ⌝ }
     requires { ⌜ 320 ≤ length (now out) ⌝ }
+    ensures { λ r. ⌜ r .desk ≡ deskAfter desk (orderOf (now (line .entry))) (recordOf (now (line .entry))) ⌝ }
     ensures { λ r. ⌜ r .length ≤ 320 ⌝ }
+    ensures { λ _. ⌜ now (room .exit) ≡ startingWith (recordOf (now (line .entry))) (now (room .entry)) ⌝ }
+    ensures { λ r. ⌜ ((text : List ℕ) × Answers desk number (orderOf (now (line .entry))) (recordOf (now (line .entry))) text × (r .length ≡ length text) × (now (out .exit) ≡ startingWith text (now (out .entry)))) ⌝ }
 {
     let order = script::parse(line, room);
-    if is_call(order) {
-        let p = called(desk, order, room);
-        return told(p, out);
-    }
-    asked(desk, number, order, out)
+    let p = called(desk, order, room);
+    let m = desk.meter;
+    let done = p.done;
+    let left = p.desk;
+    let length = answered(m, number, order, done, out);
+    Worked { desk: left, length }
 }

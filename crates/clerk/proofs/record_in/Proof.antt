@@ -1,7 +1,7 @@
--- The part ends within the buffer.
+-- The part ends within the buffer; a buffer that is not longer is the part.
 use mathlib.Core.Path.{sym}
 use native.Mathlib.Nat.{le-of-lt}
-use lib.Seq.{length-take-le}
+use lib.Seq.{length-take-le, take-all}
 use borrow.Author.Needs.{needs}
 use Rattle.clerk.proofs.record_in.Statement.{statement}
 use Rattle.clerk.proofs.record_in.Tie as tie
@@ -13,7 +13,7 @@ returns : tie.Need-returns
 returns c = search needs
 
 returns-2 : tie.Need-returns-2
-returns-2 c = search needs
+returns-2 c = sym (take-all _ _ (c .if1 .left))
 
 pub record-in-spec : {M : Type 1} → statement M
 record-in-spec = tie.close (tie.spec slice-aggregate-result returns returns-2)

@@ -1,0 +1,116 @@
+-- Each arm knows the order, and plays what the definition has for it.
+use Rattle.clerk.specs.Parts.{calledBy}
+use Rattle.clerk.proofs.Halves.{no-call}
+use borrow.Author.Needs.{needs}
+use Rattle.clerk.proofs.called.Statement.{statement}
+use Rattle.clerk.proofs.called.Tie as tie
+
+enum-known-order : tie.Need-enum-known-order
+enum-known-order c = search needs
+
+pulses-requires : tie.Need-pulses-requires
+pulses-requires c κs = search needs
+
+enum-known-order-2 : tie.Need-enum-known-order-2
+enum-known-order-2 c = search needs
+
+recharge-requires : tie.Need-recharge-requires
+recharge-requires c κs = search needs
+
+enum-known-order-3 : tie.Need-enum-known-order-3
+enum-known-order-3 c = search needs
+
+record-in-requires : tie.Need-record-in-requires
+record-in-requires c κs = search needs
+
+load-requires : tie.Need-load-requires
+load-requires c κs = search needs
+
+enum-known-order-4 : tie.Need-enum-known-order-4
+enum-known-order-4 c = search needs
+
+alarms-requires : tie.Need-alarms-requires
+alarms-requires c κs = search needs
+
+enum-known-order-5 : tie.Need-enum-known-order-5
+enum-known-order-5 c = search needs
+
+command-requires : tie.Need-command-requires
+command-requires c κs = search needs
+
+enum-known-order-6 : tie.Need-enum-known-order-6
+enum-known-order-6 c = search needs
+
+key-requires : tie.Need-key-requires
+key-requires c κs = search needs
+
+enum-known-order-7 : tie.Need-enum-known-order-7
+enum-known-order-7 c = search needs
+
+tick-requires : tie.Need-tick-requires
+tick-requires c κs = search needs
+
+none-requires : tie.Need-none-requires
+none-requires c κs = search needs
+
+returns : tie.Need-returns
+unfolding calledBy
+returns c = rw (c .before .before .order .given .1) (c .pulses .ensures)
+
+returns-2 : tie.Need-returns-2
+unfolding calledBy
+returns-2 c = rw (c .before .before .order2 .given .1) (c .recharge .ensures)
+
+returns-3 : tie.Need-returns-3
+unfolding calledBy
+returns-3 c = rw (c .before .before .before .order3 .given .1, ← c .before .record-in .ensures) (c .load .ensures)
+
+returns-4 : tie.Need-returns-4
+unfolding calledBy
+returns-4 c = rw (c .before .before .order4 .given .1) (c .alarms .ensures)
+
+returns-5 : tie.Need-returns-5
+unfolding calledBy
+returns-5 c = rw (c .before .before .order5 .given .1) (c .command .ensures)
+
+returns-6 : tie.Need-returns-6
+unfolding calledBy
+returns-6 c = rw (c .before .before .order6 .given .1) (c .key .ensures)
+
+returns-7 : tie.Need-returns-7
+unfolding calledBy
+returns-7 c = rw (c .before .before .order7 .given .1) (c .tick .ensures)
+
+returns-8 : tie.Need-returns-8
+returns-8 c =
+    let a = c .before .before .before .args in
+    rw (c .none .ensures) (no-call (a .desk) (a .room .now) (a .order) (c .before .match .keys8))
+
+pub called-spec : {M : Type 1} → statement M
+called-spec =
+    tie.close
+    (tie.spec
+    enum-known-order
+    pulses-requires
+    enum-known-order-2
+    recharge-requires
+    enum-known-order-3
+    record-in-requires
+    load-requires
+    enum-known-order-4
+    alarms-requires
+    enum-known-order-5
+    command-requires
+    enum-known-order-6
+    key-requires
+    enum-known-order-7
+    tick-requires
+    none-requires
+    returns
+    returns-2
+    returns-3
+    returns-4
+    returns-5
+    returns-6
+    returns-7
+    returns-8)

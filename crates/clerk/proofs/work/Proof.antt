@@ -1,0 +1,36 @@
+-- The line's reader gives the order and the record, and the two halves of the work go by them.
+use Rattle.clerk.proofs.Halves.{worked}
+use borrow.Author.Needs.{needs}
+use Rattle.clerk.proofs.work.Statement.{statement}
+use Rattle.clerk.proofs.work.Tie as tie
+
+parse-requires : tie.Need-parse-requires
+parse-requires c κs = search needs
+
+called-requires : tie.Need-called-requires
+called-requires c κs = search needs
+
+answered-requires : tie.Need-answered-requires
+answered-requires c κs = search needs
+
+same-length : tie.Need-same-length
+same-length c = search needs
+
+same-length-2 : tie.Need-same-length-2
+same-length-2 c = search needs
+
+returns : tie.Need-returns
+returns c =
+    let w = c .before .before in
+    let p = w .before .before .before .before .before in
+    let o = p .before .before .before .before in
+    let a = o .before .before .before .before .before .args in
+    let q = o .parse .ensures in
+    let said = w .answered .ensures .1 in
+    let all = worked (a .desk) (a .number) (a .line .now) (a .room .now) (q .0) (q .1) (p .called .ensures) in
+    (all .0, (w .answered .ensures .0, (q .1, (said .0, all .1 (said .0) (said .1), said .2, said .3))))
+
+pub work-spec : {M : Type 1} → statement M
+work-spec =
+    tie.close
+    (tie.spec parse-requires called-requires answered-requires same-length same-length-2 returns)

@@ -1,0 +1,2 @@
+pub mod Clerk
+pub mod Parts
