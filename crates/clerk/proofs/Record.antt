@@ -11,27 +11,9 @@ use Rattle.script.specs.declared.Kind.the-variants as kind
 use Rattle.script.specs.declared.Verdict.{Verdict}
 use Rattle.script.specs.declared.Verdict.the-variants.{Sound, Fault}
 use Rattle.script.specs.declared.Order.{Order}
-use Rattle.script.specs.declared.Order.the-variants.{Nothing, Pulses, Recharge, Load, Alarms, Command, Key, Tick, Step, Display, Day, Month, Heavy, Show, Wrong}
 use Rattle.script.specs.Kinds.{formOf}
 use Rattle.script.specs.Orders.{saidBy, recordBy, orderBy, bytesBy, kindIn, verdictIn, orderIn, recordIn, orderOf, recordOf}
-
--- how many bytes of the buffer an order takes for its record
-abbrev pub sizeOf : Order → ℕ
-sizeOf (Pulses p) = 0
-sizeOf (Recharge p) = 0
-sizeOf (Load p n) = n
-sizeOf (Alarms p) = 0
-sizeOf (Command p) = 0
-sizeOf (Key p) = 0
-sizeOf (Tick p) = 0
-sizeOf Step = 0
-sizeOf Display = 0
-sizeOf (Day k) = 0
-sizeOf (Month k) = 0
-sizeOf (Heavy v) = 0
-sizeOf Show = 0
-sizeOf (Wrong k) = 0
-sizeOf Nothing = 0
+use Rattle.clerk.specs.Clerk.{sizeOf}
 
 of-kind : (k : Kind) (s : List ℕ) → length (recordBy (formOf k) s) ≡ sizeOf (saidBy k s)
 unfolding saidBy recordBy formOf

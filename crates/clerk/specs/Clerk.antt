@@ -2,10 +2,15 @@
 use mathlib.Core.Path.{_≡_}
 use mathlib.Core.List.{List, []}
 use Prim.Native.Nat.{ℕ}
+use Rattle.answer.specs.declared.Answer.the-variants.{Accepted}
+use Rattle.account.specs.Codes.{noCodes}
 use Rattle.journal.specs.declared.Heavy.{Heavy as HeavyFound}
+use Rattle.meter.specs.declared.Meter.{Meter}
+use Rattle.meter.specs.declared.Done.{Done}
 use Rattle.meter.specs.Call.{pulses, recharge, load, alarms, command, key, tick}
 use Rattle.query.specs.Queries.{stepAnswer, displayAnswer, dayAnswer, monthAnswer, HeavyAnswer}
 use Rattle.desk.specs.declared.Desk.{Desk}
+use Rattle.desk.specs.declared.Played.{Played}
 use Rattle.desk.specs.Desk.{played}
 use Rattle.script.specs.declared.Order.{Order}
 use Rattle.script.specs.declared.Order.the-variants.{Nothing, Pulses, Recharge, Load, Alarms, Command, Key, Tick, Step, Display, Day, Month, Heavy, Show, Wrong}
@@ -13,39 +18,69 @@ use Rattle.report.specs.Lines.{callLine, stepLine, displayLine, recordLine, hea
 use Rattle.report.specs.Errors.{errorLine}
 use Rattle.showing.specs.Show.{showLines}
 
--- a call is played, a plan with the record beside it; any other line leaves the desk
-unfoldable pub deskAfter : Desk → Order → List ℕ → Desk
-deskAfter d (Pulses p) bytes = played d (pulses p) .desk
-deskAfter d (Recharge p) bytes = played d (recharge p) .desk
-deskAfter d (Load p n) bytes = played d (load p bytes) .desk
-deskAfter d (Alarms p) bytes = played d (alarms p) .desk
-deskAfter d (Command p) bytes = played d (command p) .desk
-deskAfter d (Key p) bytes = played d (key p) .desk
-deskAfter d (Tick p) bytes = played d (tick p) .desk
-deskAfter d Step bytes = d
-deskAfter d Display bytes = d
-deskAfter d (Day k) bytes = d
-deskAfter d (Month k) bytes = d
-deskAfter d (Heavy v) bytes = d
-deskAfter d Show bytes = d
-deskAfter d (Wrong k) bytes = d
-deskAfter d Nothing bytes = d
+-- no call
+abbrev pub idle : Desk → Played
+idle d = record { desk = d; done = record { answer = Accepted; codes = noCodes } }
 
--- the text that answers line `number`: a call's line, the query's, or what is wrong; nothing for a line that says nothing.
--- Which heavy day is named is left free, as the query leaves it.
-unfoldable pub Answers : Desk → ℕ → Order → List ℕ → List ℕ → Type 0
-Answers d number (Pulses p) bytes text = text ≡ callLine (played d (pulses p) .done)
-Answers d number (Recharge p) bytes text = text ≡ callLine (played d (recharge p) .done)
-Answers d number (Load p n) bytes text = text ≡ callLine (played d (load p bytes) .done)
-Answers d number (Alarms p) bytes text = text ≡ callLine (played d (alarms p) .done)
-Answers d number (Command p) bytes text = text ≡ callLine (played d (command p) .done)
-Answers d number (Key p) bytes text = text ≡ callLine (played d (key p) .done)
-Answers d number (Tick p) bytes text = text ≡ callLine (played d (tick p) .done)
-Answers d number Step bytes text = text ≡ stepLine (stepAnswer (d .meter))
-Answers d number Display bytes text = text ≡ displayLine (displayAnswer (d .meter))
-Answers d number (Day k) bytes text = text ≡ recordLine (dayAnswer (d .meter) k)
-Answers d number (Month k) bytes text = text ≡ recordLine (monthAnswer (d .meter) k)
-Answers d number (Heavy v) bytes text = (h : HeavyFound) × HeavyAnswer (d .meter) (v .0) h × (text ≡ heavyLine h)
-Answers d number Show bytes text = text ≡ showLines (d .meter)
-Answers d number (Wrong k) bytes text = text ≡ errorLine number k
-Answers d number Nothing bytes text = text ≡ []
+-- a call is played, a plan with the record beside it; any other line leaves the desk
+unfoldable pub playedBy : Desk → Order → List ℕ → Played
+playedBy d (Pulses p) bytes = played d (pulses p)
+playedBy d (Recharge p) bytes = played d (recharge p)
+playedBy d (Load p n) bytes = played d (load p bytes)
+playedBy d (Alarms p) bytes = played d (alarms p)
+playedBy d (Command p) bytes = played d (command p)
+playedBy d (Key p) bytes = played d (key p)
+playedBy d (Tick p) bytes = played d (tick p)
+playedBy d Step bytes = idle d
+playedBy d Display bytes = idle d
+playedBy d (Day k) bytes = idle d
+playedBy d (Month k) bytes = idle d
+playedBy d (Heavy v) bytes = idle d
+playedBy d Show bytes = idle d
+playedBy d (Wrong k) bytes = idle d
+playedBy d Nothing bytes = idle d
+
+-- the text that answers line `number`, from the meter before it and what a call did: a call's line, the query's, or what is
+-- wrong; nothing for a line that says nothing. Which heavy day is named is left free, as the query leaves it.
+unfoldable pub Said : Meter → ℕ → Order → Done → List ℕ → Type 0
+Said m number (Pulses p) done text = text ≡ callLine done
+Said m number (Recharge p) done text = text ≡ callLine done
+Said m number (Load p n) done text = text ≡ callLine done
+Said m number (Alarms p) done text = text ≡ callLine done
+Said m number (Command p) done text = text ≡ callLine done
+Said m number (Key p) done text = text ≡ callLine done
+Said m number (Tick p) done text = text ≡ callLine done
+Said m number Step done text = text ≡ stepLine (stepAnswer m)
+Said m number Display done text = text ≡ displayLine (displayAnswer m)
+Said m number (Day k) done text = text ≡ recordLine (dayAnswer m k)
+Said m number (Month k) done text = text ≡ recordLine (monthAnswer m k)
+Said m number (Heavy v) done text = (h : HeavyFound) × HeavyAnswer m (v .0) h × (text ≡ heavyLine h)
+Said m number Show done text = text ≡ showLines m
+Said m number (Wrong k) done text = text ≡ errorLine number k
+Said m number Nothing done text = text ≡ []
+
+-- the desk after a line
+abbrev pub deskAfter : Desk → Order → List ℕ → Desk
+deskAfter d o bytes = playedBy d o bytes .desk
+
+-- the text that answers it
+abbrev pub Answers : Desk → ℕ → Order → List ℕ → List ℕ → Type 0
+Answers d number o bytes text = Said (d .meter) number o (playedBy d o bytes .done) text
+
+-- how many bytes a plan's record has; any other line has none
+abbrev pub sizeOf : Order → ℕ
+sizeOf (Pulses p) = 0
+sizeOf (Recharge p) = 0
+sizeOf (Load p n) = n
+sizeOf (Alarms p) = 0
+sizeOf (Command p) = 0
+sizeOf (Key p) = 0
+sizeOf (Tick p) = 0
+sizeOf Step = 0
+sizeOf Display = 0
+sizeOf (Day k) = 0
+sizeOf (Month k) = 0
+sizeOf (Heavy v) = 0
+sizeOf Show = 0
+sizeOf (Wrong k) = 0
+sizeOf Nothing = 0

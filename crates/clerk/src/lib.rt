@@ -13,8 +13,7 @@ ghost use Prim.Native.Nat.{ℕ, _*_, _≤_};
 ghost use lib.ListN.{length, take};
 ghost use Rattle.text.specs.Decimal.{startingWith};
 ghost use Rattle.script.specs.Orders.{orderOf, recordOf};
-ghost use Rattle.clerk.specs.Clerk.{deskAfter, Answers};
-ghost use Rattle.clerk.specs.Parts.{calledBy, Said};
+ghost use Rattle.clerk.specs.Clerk.{playedBy, Said, deskAfter, Answers, sizeOf};
 
 // The desk after a line, and the length of the answer.
 pub struct Worked {
@@ -34,7 +33,7 @@ fn record_in(room: &[u8], n: usize) -> &[u8]
 
 // A call on the desk; what is no call leaves it as it is.
 fn called(desk: Desk, order: Order, room: &[u8]) -> Played
-    ensures { λ r. ⌜ r ≡ calledBy desk order (now (room .entry)) ⌝ }
+    ensures { λ r. ⌜ r ≡ playedBy desk order (take (sizeOf order) (now (room .entry))) ⌝ }
 {
     match order {
         Order::Pulses(p) => desk.pulses(p),

@@ -4,7 +4,7 @@ use mathlib.Core.List.{[]}
 use native.Mathlib.Omega.{arith}
 use Rattle.text.proofs.Behind.{nothing}
 use Rattle.report.specs.Lines.{stepLine, displayLine, recordLine}
-use Rattle.clerk.specs.Parts.{Said}
+use Rattle.clerk.specs.Clerk.{Said}
 use Rattle.clerk.proofs.Halves.{call-said}
 use borrow.Author.Needs.{needs}
 use Rattle.clerk.proofs.answered.Statement.{statement}
