@@ -1,4 +1,5 @@
 pub mod State
+pub mod Turned
 pub mod Kept
 pub mod Outcomes
 pub mod Rooms

@@ -31,7 +31,8 @@ use Rattle.account.specs.Account.{freshAccount}
 use Rattle.meter.specs.Turn.{turn, turnedTo, turnCodes}
 use Rattle.meter.specs.Refusals.{stampRefusal, pulseRefusal}
 use Rattle.meter.proofs.State.{State, state-in, state-out, bounded-state}
-use Rattle.meter.proofs.Kept.{slots-in, total-in, total-low, turn-state, turn-account, turn-volumes, fee-cap}
+use Rattle.meter.proofs.Turned.{slots-in, total-in, total-low, turn-state, turn-account, turn-volumes}
+use Rattle.meter.proofs.Kept.{fee-cap}
 use Rattle.meter.proofs.Outcomes.{admitted-bounds}
 
 -- the bounds in parts

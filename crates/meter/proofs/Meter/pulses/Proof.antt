@@ -12,7 +12,7 @@ use Rattle.meter.specs.Call.{pulses as call}
 use Rattle.meter.specs.Refusals.{stampRefusal, ownRefusal}
 use Rattle.meter.specs.Effects.{effectOf, codesOf}
 use Rattle.meter.proofs.Outcomes.{not-admitted, admitted, own-refused, accepts, admitted-bounds}
-use Rattle.meter.proofs.Kept.{total-low, turn-volumes}
+use Rattle.meter.proofs.Turned.{total-low, turn-volumes}
 use Rattle.slots.proofs.Real.{real-laws}
 use Rattle.meter.proofs.Rooms.{state, turned-good, pulses-fit, same-day, same-day-codes, clock-set}
 use borrow.Author.Needs.{needs}

@@ -8,7 +8,7 @@ use Rattle.meter.specs.Call.{recharge as call}
 use Rattle.meter.specs.Refusals.{stampRefusal, ownRefusal}
 use Rattle.meter.specs.Effects.{effectOf, codesOf}
 use Rattle.meter.proofs.Outcomes.{not-admitted, admitted, own-refused, accepts, admitted-bounds}
-use Rattle.meter.proofs.Kept.{turn-account}
+use Rattle.meter.proofs.Turned.{turn-account}
 use Rattle.slots.proofs.Real.{real-laws}
 use Rattle.meter.proofs.Rooms.{state, turned-state, small-balance, low-serial, small-amount}
 use borrow.Author.Needs.{needs}
