@@ -88,8 +88,8 @@ mkdir -p "$all"
 # the crates with most to do first
 for name; do
     echo "$(ls "crates/$name/wrong"/*.edit | wc -l) $name"
-done | sort -rn | cut -d' ' -f2 | xargs -P 2 -I NAME "$0" --crate NAME | tee "$all/lines"
-refused=$(grep -c ': refused, as it must be' "$all/lines")
-others=$(grep -vc ': refused, as it must be' "$all/lines")
+done | sort -rn | cut -d' ' -f2 | xargs -P 2 -I NAME "$0" --crate NAME | tee "$all/all.txt"
+refused=$(grep -c ': refused, as it must be' "$all/all.txt")
+others=$(grep -vc ': refused, as it must be' "$all/all.txt")
 echo "$refused wrong answers refused, $others not"
 [ "$others" -eq 0 ] && [ "$refused" -gt 0 ]
