@@ -1,9 +1,13 @@
-// Document 01, "Worked sums": those that a program checks, the overlap of Tables C.10 and C.11, and
-// gas at midnight of a month's end.
+// Document 01 tried on meters: its worked sums, and each refusal number 0 to 27 with the meter
+// unchanged.
+mod calls; // calls.rt: each call on a meter, and whether it answers as it should
+mod count; // count.rt: the lines that are printed
+mod refusals; // refusals.rt: the numbers 0 to 27
+mod same; // same.rt: meters compared
+mod setup; // setup.rt: records and meters
 mod sums; // sums.rt: the worked sums
 
-use trial::count;
-use trial::count::Count;
+use count::Count;
 
 fn main() {
     let c = Count {
@@ -11,6 +15,6 @@ fn main() {
         wrong: 0,
     };
     let c = sums::all(c);
-    let c = sums::displays(c);
+    let c = refusals::all(c);
     count::sum_up(c);
 }

@@ -1,8 +1,8 @@
 -- The loop reads below 65 alone, which is the buffer's length, and goes up by one.
 use Prim.Native.Nat.{_-_, _≤_}
 use borrow.Author.Needs.{needs}
-use Rattle.refusal_numbers.proofs.refusals.filled.Statement.{statement}
-use Rattle.refusal_numbers.proofs.refusals.filled.Tie as tie
+use Rattle.worked_sums.proofs.refusals.filled.Statement.{statement}
+use Rattle.worked_sums.proofs.refusals.filled.Tie as tie
 
 abbrev Inv-loop : tie.InvT-loop
 Inv-loop s x i₀ i = i ≤ 65
