@@ -6,7 +6,7 @@
 #
 #   tests/wrong.sh [CRATE..]    in the repository's root, after `rt check` or `rt ci`
 #
-# Two crates are tried at a time. A line for each edit, with the place of the first error; target/wrong/CRATE/EDIT.log has
+# Three crates are tried at a time. A line for each edit, with the place of the first error; target/wrong/CRATE/EDIT.log has
 # the rest. The last line counts them.
 set -uo pipefail
 cd "$(dirname "$0")/.."
@@ -88,8 +88,9 @@ mkdir -p "$all"
 # the crates with most to do first
 for name; do
     echo "$(ls "crates/$name/wrong"/*.edit | wc -l) $name"
-done | sort -rn | cut -d' ' -f2 | xargs -P 2 -I NAME "$0" --crate NAME | tee "$all/all.txt"
+done | sort -rn >"$all/crates.txt"
+wanted=$(awk '{ n += $1 } END { print n }' "$all/crates.txt")
+cut -d' ' -f2 "$all/crates.txt" | xargs -P 3 -I NAME "$repo/tests/wrong.sh" --crate NAME | tee "$all/all.txt"
 refused=$(grep -c ': refused, as it must be' "$all/all.txt")
-others=$(grep -vc ': refused, as it must be' "$all/all.txt")
-echo "$refused wrong answers refused, $others not"
-[ "$others" -eq 0 ] && [ "$refused" -gt 0 ]
+echo "$refused of $wanted wrong answers refused"
+[ "$refused" -eq "$wanted" ] && [ "$wanted" -gt 0 ]
