@@ -2,8 +2,8 @@
 -- but through the laws of `Days`. Assumes nothing.
 use mathlib.Core.Path.{_≡_, refl}
 use mathlib.Core.Bool.{true, cond}
-use Prim.Native.Nat.{ℕ, _+_, _-_, _/_, _≤_, _<_}
-use native.Mathlib.Nat.{le-trans, le-div-iff-mul-le, div-mul-le-self, div-le-self}
+use Prim.Native.Nat.{ℕ, zero, suc, _+_, _-_, _/_, _≤_, _<_}
+use native.Mathlib.Nat.{le-trans, le-div-iff-mul-le, div-mul-le-self, div-le-self, div-zero}
 use native.Mathlib.Numerals.{add-one}
 use native.Mathlib.Omega.{arith}
 use lib.Dec.{leb, ltb, eqb}
@@ -109,20 +109,20 @@ pub run-from : (first n d : ℕ) → first ≤ d → runOf first n d ≡ (dayNum
 unfolding runOf
 run-from first n d h = rw (le-ltb d first h, add-one)
 
--- a share of more is no less
-div-rises : (x y n : ℕ) → 0 < n → x ≤ y → x / n ≤ y / n
-div-rises x y n hn h = le-div-iff-mul-le hn .1 (le-trans (div-mul-le-self x n) h)
+-- a share of more is no less, also among none
+div-rises : (x y n : ℕ) → x ≤ y → x / n ≤ y / n
+div-rises x y zero h = rw (div-zero x, div-zero y) (omega arith)
+div-rises x y (suc n) h = le-div-iff-mul-le {k = suc n} (omega arith) .1 (le-trans (div-mul-le-self x (suc n)) h)
 
--- a later date's run is not an earlier one
-pub run-rises : (first n a b : ℕ) → 0 < n → isDate first ≡ true → isDate a ≡ true → isDate b ≡ true → a ≤ b
-    → runOf first n a ≤ runOf first n b
-run-rises first n a b hn hf ha hb h =
+-- a later date's run is not an earlier one, whatever the first day and the days of a run are
+pub run-rises : (first n a b : ℕ) → isDate a ≡ true → isDate b ≡ true → a ≤ b → runOf first n a ≤ runOf first n b
+run-rises first n a b ha hb h =
     cases (ltb a first)
     (λ e. rw (run-before first n a (ltb-true a first e)) (omega arith))
     (λ e.
     let from = ltb-false a first e in
     let days = number-keeps a b ha hb h in
-    let runs = div-rises (dayNumber a - dayNumber first) (dayNumber b - dayNumber first) n hn (omega arith) in
+    let runs = div-rises (dayNumber a - dayNumber first) (dayNumber b - dayNumber first) n (omega arith) in
     rw (run-from first n a from, run-from first n b (omega arith)) (omega arith))
 
 -- a date's cycle start has eight digits
@@ -135,8 +135,8 @@ start-bound w d h =
     (either (λ i. i < 100000000) (eqb w 3) (omega arith) (omega arith)))
 
 -- so has the number of a date's run
-pub run-bound : (first n d : ℕ) → 0 < n → isDate d ≡ true → runOf first n d < 100000000
-run-bound first n d hn h =
+pub run-bound : (first n d : ℕ) → isDate d ≡ true → runOf first n d < 100000000
+run-bound first n d h =
     cases (ltb d first)
     (λ e. rw (run-before first n d (ltb-true d first e)) (omega arith))
     (λ e.
