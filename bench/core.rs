@@ -253,32 +253,15 @@ fn main() {
         "write a record (the difference)",
         [both[0] - read[0], both[1] - read[1]],
     );
-    line(
-        "pulse call, no record held",
-        each("pulses", &records, 200_000, 7),
-    );
-    line(
-        "pulse call, 62 day and 2 month records",
-        each("pulses-62", &records, 200_000, 7),
-    );
-    line(
-        "pulse call, 62 and 120 records, no plan in force",
-        each("pulses-4000", &records, 100_000, 7),
-    );
-    line(
-        "day turn, the first 300 (Plan A in force)",
-        each("turns", &records, 300, 200),
-    );
-    line(
-        "day turn, mean of 26,000 (records full from 3,360 on)",
-        each("turns", &records, 26_000, 7),
-    );
-    line(
-        "display query (a bounds test), 62 day and 2 month records",
-        each("display-62", &records, 200_000, 7),
-    );
-    line(
-        "display query (a bounds test), 62 and 120 records",
-        each("display-4000", &records, 100_000, 7),
-    );
+    for (what, name, calls, runs) in [
+        ("pulse call, no record held", "pulses", 200_000, 7),
+        ("pulse call, 62 day and 2 month records", "pulses-62", 200_000, 7),
+        ("pulse call, 62 and 120 records, no plan in force", "pulses-4000", 100_000, 7),
+        ("day turn, the first 300 (Plan A in force)", "turns", 300, 200),
+        ("day turn, mean of 26,000 (records full from 3,360 on)", "turns", 26_000, 7),
+        ("display query (a bounds test), 62 day and 2 month records", "display-62", 200_000, 7),
+        ("display query (a bounds test), 62 and 120 records", "display-4000", 100_000, 7),
+    ] {
+        line(what, each(name, &records, calls, runs));
+    }
 }
