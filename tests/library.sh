@@ -2,7 +2,8 @@
 # Tests the C library as a host meets it: builds it, runs the example host and replay's example, compares the ABI of the
 # header with that of the model's program, and runs random lists of calls through the library and the model of document 01
 # (tests/model).
-# Run from the repository's root. Ends with `library: passed`, or exits 1.
+# Run from the repository's root. Ends with `library: passed`, or exits 1; where the machine has no gcc or no rustc it says
+# so and tries nothing, as the kit brings neither.
 set -u
 
 library=target/staticlib/libhost.a
@@ -18,6 +19,11 @@ c_compile() {
 }
 
 [ -f include/harpdapple.h ] || fail "run from the repository's root"
+for tool in gcc rustc; do
+    command -v "$tool" >/dev/null && continue
+    echo "library: NOT TRIED: this machine has no $tool, which the tests of the C library need"
+    exit 0
+done
 mkdir -p "$out" || fail "cannot make $out"
 
 if ! rt staticlib host >"$out/staticlib.log" 2>&1; then
