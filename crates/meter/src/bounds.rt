@@ -23,27 +23,21 @@ impl Meter {
     fn is_fresh(self) -> bool
         ensures { λ r. ⌜ r ≡ isFresh self ⌝ }
     {
-        let a = self.account;
-        let s = self.slots;
-        let v = self.volumes;
-        let w = self.valve;
-        let j = self.journal;
         self.clock.second == 0
-            && (a.is_fresh() && (s.is_fresh() && (v.is_fresh() && (w.is_fresh() && j.is_fresh()))))
+            && (self.account.is_fresh()
+                && (self.slots.is_fresh()
+                    && (self.volumes.is_fresh()
+                        && (self.valve.is_fresh() && self.journal.is_fresh()))))
     }
 
     fn state_good(self) -> bool
         ensures { λ r. ⌜ r ≡ stateGood real self ⌝ }
     {
-        let v = self.volumes;
-        let t = v.total;
-        let a = self.account;
-        let s = self.slots;
-        let j = self.journal;
-        let opened = self.valve.opened;
-        let d = self.clock.date;
-        v.is_good()
-            && (a.is_good(t) && (s.is_good(d, t) && (j.is_good(t) && s.idle_good(opened, d))))
+        self.volumes.is_good()
+            && (self.account.is_good(self.volumes.total)
+                && (self.slots.is_good(self.clock.date, self.volumes.total)
+                    && (self.journal.is_good(self.volumes.total)
+                        && self.slots.idle_good(self.valve.opened, self.clock.date))))
     }
 
     // Whether the meter is within its bounds: refusal 0 where it is not.
@@ -53,7 +47,6 @@ impl Meter {
         if self.clock.date == 0 {
             return self.is_fresh();
         }
-        let c = self.clock;
-        c.is_stamp() && self.state_good()
+        self.clock.is_stamp() && self.state_good()
     }
 }

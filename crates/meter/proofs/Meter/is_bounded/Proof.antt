@@ -21,11 +21,11 @@ state-good-requires c κs = search needs
 
 returns-2 : tie.Need-returns-2
 unfolding bounded stampGood isStamp
-returns-2 c = rw (ne-eqb _ _ (c .before .before .before .before .if1 .left), ← c .before .before .is-stamp .ensures, c .before .if2 .taken, c .state-good .ensures)
+returns-2 c = rw (ne-eqb _ _ (c .before .before .before .if1 .left), ← c .before .before .is-stamp .ensures, c .before .if2 .taken, c .state-good .ensures)
 
 returns-3 : tie.Need-returns-3
 unfolding bounded stampGood isStamp
-returns-3 c = rw (ne-eqb _ _ (c .before .before .before .if1 .left), ← c .before .is-stamp .ensures, c .if2 .left)
+returns-3 c = rw (ne-eqb _ _ (c .before .before .if1 .left), ← c .before .is-stamp .ensures, c .if2 .left)
 
 pub is-bounded-spec : {M : Type 1} → statement M
 is-bounded-spec =

@@ -25,7 +25,7 @@ declined-requires : tie.Need-declined-requires
 declined-requires c κs = search needs
 
 returns : tie.Need-returns
-returns c = c .declined .ensures ∙ ap (declinedOf (c .before .before .before .before .before .before .args .self)) (c .before .enum-told .given .1) ∙ sym (not-admitted (c .before .before .before .before .before .before .args .self) (call (c .before .before .before .before .before .before .args .p) (c .before .before .before .before .before .before .args .bytes .now)) _ (sym (c .before .before .before .admit .ensures) ∙ c .before .enum-told .given .1))
+returns c = c .declined .ensures ∙ ap (declinedOf (c .before .before .before .before .before .args .self)) (c .before .enum-told .given .1) ∙ sym (not-admitted (c .before .before .before .before .before .args .self) (call (c .before .before .before .before .before .args .p) (c .before .before .before .before .before .args .bytes .now)) _ (sym (c .before .before .before .admit .ensures) ∙ c .before .enum-told .given .1))
 
 read-requires : tie.Need-read-requires
 read-requires c κs = search needs
@@ -45,14 +45,14 @@ denied-requires c κs = search needs
 returns-2 : tie.Need-returns-2
 unfolding ownRefusal
 returns-2 c =
-    let a : stampRefusal real (c .before .before .before .before .before .before .before .before .before .before .before .before .args .self) (c .before .before .before .before .before .before .before .before .before .before .before .before .args .p .stamp) ≡ Accepted = admitted (c .before .before .before .before .before .before .before .before .before .before .before .before .args .self) (c .before .before .before .before .before .before .before .before .before .before .before .before .args .p .stamp) _ (sym (c .before .before .before .before .before .before .before .before .before .admit .ensures) ∙ c .before .before .before .before .before .before .before .d .given .1) .0 in
-    let e = admitted (c .before .before .before .before .before .before .before .before .before .before .before .before .args .self) (c .before .before .before .before .before .before .before .before .before .before .before .before .args .p .stamp) _ (sym (c .before .before .before .before .before .before .before .before .before .admit .ensures) ∙ c .before .before .before .before .before .before .before .d .given .1) .1 in
-    c .denied .ensures ∙ ap (deniedOf (c .before .before .before .before .before .before .before .before .before .before .before .before .args .self)) (c .before .enum-told3 .given .1) ∙ sym (own-refused (c .before .before .before .before .before .before .before .before .before .before .before .before .args .self) (call (c .before .before .before .before .before .before .before .before .before .before .before .before .args .p) (c .before .before .before .before .before .before .before .before .before .before .before .before .args .bytes .now)) _ a (rw (← e, ← c .before .before .before .before .before .read .ensures) (sym (c .before .before .before .vet .ensures) ∙ c .before .enum-told3 .given .1)))
+    let a : stampRefusal real (c .before .before .before .before .before .before .before .before .before .before .args .self) (c .before .before .before .before .before .before .before .before .before .before .args .p .stamp) ≡ Accepted = admitted (c .before .before .before .before .before .before .before .before .before .before .args .self) (c .before .before .before .before .before .before .before .before .before .before .args .p .stamp) _ (sym (c .before .before .before .before .before .before .before .before .admit .ensures) ∙ c .before .before .before .before .before .before .d .given .1) .0 in
+    let e = admitted (c .before .before .before .before .before .before .before .before .before .before .args .self) (c .before .before .before .before .before .before .before .before .before .before .args .p .stamp) _ (sym (c .before .before .before .before .before .before .before .before .admit .ensures) ∙ c .before .before .before .before .before .before .d .given .1) .1 in
+    c .denied .ensures ∙ ap (deniedOf (c .before .before .before .before .before .before .before .before .before .before .args .self)) (c .before .enum-told3 .given .1) ∙ sym (own-refused (c .before .before .before .before .before .before .before .before .before .before .args .self) (call (c .before .before .before .before .before .before .before .before .before .before .args .p) (c .before .before .before .before .before .before .before .before .before .before .args .bytes .now)) _ a (rw (← e, ← c .before .before .before .before .read .ensures) (sym (c .before .before .before .vet .ensures) ∙ c .before .enum-told3 .given .1)))
 
 turn-requires : tie.Need-turn-requires
 turn-requires c κs =
-    let a : stampRefusal real (c .before .before .before .before .before .before .before .before .before .before .before .args .self) (c .before .before .before .before .before .before .before .before .before .before .before .args .p .stamp) ≡ Accepted = admitted (c .before .before .before .before .before .before .before .before .before .before .before .args .self) (c .before .before .before .before .before .before .before .before .before .before .before .args .p .stamp) _ (sym (c .before .before .before .before .before .before .before .before .admit .ensures) ∙ c .before .before .before .before .before .before .d .given .1) .0 in
-    let b = admitted-bounds (c .before .before .before .before .before .before .before .before .before .before .before .args .self) (c .before .before .before .before .before .before .before .before .before .before .before .args .p .stamp) a in
+    let a : stampRefusal real (c .before .before .before .before .before .before .before .before .before .args .self) (c .before .before .before .before .before .before .before .before .before .args .p .stamp) ≡ Accepted = admitted (c .before .before .before .before .before .before .before .before .before .args .self) (c .before .before .before .before .before .before .before .before .before .args .p .stamp) _ (sym (c .before .before .before .before .before .before .before .admit .ensures) ∙ c .before .before .before .before .before .d .given .1) .0 in
+    let b = admitted-bounds (c .before .before .before .before .before .before .before .before .before .args .self) (c .before .before .before .before .before .before .before .before .before .args .p .stamp) a in
     (b .0, b .1)
 
 loaded-requires : tie.Need-loaded-requires
@@ -67,12 +67,12 @@ accepted-requires c κs = search needs
 returns-3 : tie.Need-returns-3
 unfolding ownRefusal effectOf codesOf noteAll
 returns-3 c =
-    let a : stampRefusal real (c .before .before .before .before .before .before .before .before .before .before .before .before .before .before .before .before .before .before .args .self) (c .before .before .before .before .before .before .before .before .before .before .before .before .before .before .before .before .before .before .args .p .stamp) ≡ Accepted = admitted (c .before .before .before .before .before .before .before .before .before .before .before .before .before .before .before .before .before .before .args .self) (c .before .before .before .before .before .before .before .before .before .before .before .before .before .before .before .before .before .before .args .p .stamp) _ (sym (c .before .before .before .before .before .before .before .before .before .before .before .before .before .before .before .admit .ensures) ∙ c .before .before .before .before .before .before .before .before .before .before .before .before .before .d .given .1) .0 in
-    let e = admitted (c .before .before .before .before .before .before .before .before .before .before .before .before .before .before .before .before .before .before .args .self) (c .before .before .before .before .before .before .before .before .before .before .before .before .before .before .before .before .before .before .args .p .stamp) _ (sym (c .before .before .before .before .before .before .before .before .before .before .before .before .before .before .before .admit .ensures) ∙ c .before .before .before .before .before .before .before .before .before .before .before .before .before .d .given .1) .1 in
+    let a : stampRefusal real (c .before .before .before .before .before .before .before .before .before .before .before .before .before .before .args .self) (c .before .before .before .before .before .before .before .before .before .before .before .before .before .before .args .p .stamp) ≡ Accepted = admitted (c .before .before .before .before .before .before .before .before .before .before .before .before .before .before .args .self) (c .before .before .before .before .before .before .before .before .before .before .before .before .before .before .args .p .stamp) _ (sym (c .before .before .before .before .before .before .before .before .before .before .before .before .admit .ensures) ∙ c .before .before .before .before .before .before .before .before .before .before .d .given .1) .0 in
+    let e = admitted (c .before .before .before .before .before .before .before .before .before .before .before .before .before .before .args .self) (c .before .before .before .before .before .before .before .before .before .before .before .before .before .before .args .p .stamp) _ (sym (c .before .before .before .before .before .before .before .before .before .before .before .before .admit .ensures) ∙ c .before .before .before .before .before .before .before .before .before .before .d .given .1) .1 in
     c .accepted .ensures
-    ∙ accepts (c .before .before .before .before .before .before .before .before .before .before .before .before .before .before .before .before .before .before .args .self) (call (c .before .before .before .before .before .before .before .before .before .before .before .before .before .before .before .before .before .before .args .p) (c .before .before .before .before .before .before .before .before .before .before .before .before .before .before .before .before .before .before .args .bytes .now)) a (rw (← e, ← c .before .before .before .before .before .before .before .before .before .before .before .read .ensures) (sym (c .before .before .before .before .before .before .before .before .before .vet .ensures) ∙ c .before .before .before .before .before .before .before .enum-told2 .given .1))
-    (rw (c .before .before .before .loaded .ensures, c .before .before .before .before .before .before .turn .ensures .0, c .before .before .before .before .before .before .before .before .before .before .before .read .ensures))
-    (rw (c .before .note .ensures, c .before .before .before .before .before .before .turn .ensures .1))
+    ∙ accepts (c .before .before .before .before .before .before .before .before .before .before .before .before .before .before .args .self) (call (c .before .before .before .before .before .before .before .before .before .before .before .before .before .before .args .p) (c .before .before .before .before .before .before .before .before .before .before .before .before .before .before .args .bytes .now)) a (rw (← e, ← c .before .before .before .before .before .before .before .before .read .ensures) (sym (c .before .before .before .before .before .before .before .vet .ensures) ∙ c .before .before .before .before .before .enum-told2 .given .1))
+    (rw (c .before .before .loaded .ensures, c .before .before .before .before .turn .ensures .0, c .before .before .before .before .before .before .before .before .read .ensures))
+    (rw (c .before .note .ensures, c .before .before .before .before .turn .ensures .1))
 
 pub load-spec : {M : Type 1} → statement M
 load-spec =
