@@ -175,8 +175,7 @@ impl Fall {
         if !hit {
             return self;
         }
-        let k = self.codes;
-        let said = k.note(code);
+        let said = self.codes.note(code);
         if !closes {
             return Fall {
                 opened: self.opened,
@@ -209,17 +208,15 @@ impl Account {
     pub fn is_fresh(self) -> bool
         ensures { λ r. ⌜ r ≡ freshAccount self ⌝ }
     {
-        let b = self.balance;
-        b.at_or_below(Charge(0))
-            && (!b.negative() && (self.serial == 0 && (self.one == 20 && self.two == 5)))
+        self.balance.at_or_below(Charge(0))
+            && (!self.balance.negative() && (self.serial == 0 && (self.one == 20 && self.two == 5)))
     }
 
     // The bounds of an account that a host hands in.
     pub fn is_good(self, total: Hundredths) -> bool
         ensures { λ r. ⌜ r ≡ accountGood self (total .0) ⌝ }
     {
-        let b = self.balance;
-        self.serial <= 65_535 && (alarms_good(self.one, self.two) && b.in_bounds(total))
+        self.serial <= 65_535 && (alarms_good(self.one, self.two) && self.balance.in_bounds(total))
     }
 
     // Refusals 15 to 20, in their order.
@@ -246,8 +243,7 @@ impl Account {
         if amount.0 < 1 {
             return Answer::Refused(19);
         }
-        let b = self.balance;
-        if b.takes(amount) {
+        if self.balance.takes(amount) {
             return Answer::Accepted;
         }
         Answer::Refused(20)
@@ -258,9 +254,8 @@ impl Account {
         requires { ⌜ amount .0 ≤ 2 ^ 55 ⌝ }
         ensures { λ r. ⌜ r ≡ recharged self (amount .0) serial ⌝ }
     {
-        let b = self.balance;
         let mut next = self;
-        next.balance = b.credit(amount.in_millionths());
+        next.balance = self.balance.credit(amount.in_millionths());
         next.serial = serial;
         next
     }
@@ -279,9 +274,8 @@ impl Account {
         requires { ⌜ cost .0 < 2 ^ 62 ⌝ }
         ensures { λ r. ⌜ r ≡ charged self (cost .0) ⌝ }
     {
-        let b = self.balance;
         let mut next = self;
-        next.balance = b.debit(cost);
+        next.balance = self.balance.debit(cost);
         next
     }
 
@@ -290,16 +284,10 @@ impl Account {
         ensures { λ r. ⌜ r ≡ fallOf self (is .0) opened codes ⌝ }
     {
         let was = self.balance;
-        let one = Charge::yuan(self.one);
-        let two = Charge::yuan(self.two);
-        let a = Fall { opened, codes };
-        let h1 = crosses(was, is, one);
-        let b = a.strike(h1, 0x2E, false);
-        let h2 = crosses(was, is, two);
-        let c = b.strike(h2, 0x2F, true);
-        let h3 = crosses(was, is, Charge(0));
-        let d = c.strike(h3, 0x30, true);
-        let h4 = sinks(was, is);
-        d.strike(h4, 0x33, false)
+        let mut f = Fall { opened, codes };
+        f = f.strike(crosses(was, is, Charge::yuan(self.one)), 0x2E, false);
+        f = f.strike(crosses(was, is, Charge::yuan(self.two)), 0x2F, true);
+        f = f.strike(crosses(was, is, Charge(0)), 0x30, true);
+        f.strike(sinks(was, is), 0x33, false)
     }
 }

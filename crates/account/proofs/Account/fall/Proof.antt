@@ -14,13 +14,13 @@ yuan-requires-2 : tie.Need-yuan-requires-2
 yuan-requires-2 c κs = search needs
 
 crosses-requires : tie.Need-crosses-requires
-crosses-requires c κs = rw (c .before .yuan .ensures) (omega arith)
+crosses-requires c κs = rw (c .yuan .ensures) (omega arith)
 
 strike-requires : tie.Need-strike-requires
 strike-requires c κs = search needs
 
 crosses-requires-2 : tie.Need-crosses-requires-2
-crosses-requires-2 c κs = rw (c .before .before .yuan2 .ensures) (omega arith)
+crosses-requires-2 c κs = rw (c .yuan2 .ensures) (omega arith)
 
 strike-requires-2 : tie.Need-strike-requires-2
 strike-requires-2 c κs = search needs
@@ -43,7 +43,7 @@ returns c =
     let d = c .before .before in
     let e = d .before .before in
     let f = e .before .before in
-    rw (c .strike4 .ensures, c .before .sinks .ensures, d .strike3 .ensures, d .before .crosses3 .ensures, e .strike2 .ensures, e .before .crosses2 .ensures, f .strike .ensures, f .before .crosses .ensures, f .before .before .yuan2 .ensures, f .before .before .before .yuan .ensures)
+    rw (c .strike4 .ensures, c .before .sinks .ensures, d .strike3 .ensures, d .before .crosses3 .ensures, e .strike2 .ensures, e .before .crosses2 .ensures, f .before .strike .ensures, f .before .before .crosses .ensures, f .yuan2 .ensures, f .before .before .before .yuan .ensures)
     (simp (← note-append))
 
 pub fall-spec : {M : Type 1} → statement M
@@ -51,9 +51,9 @@ fall-spec =
     tie.close
     (tie.spec
     yuan-requires
-    yuan-requires-2
     crosses-requires
     strike-requires
+    yuan-requires-2
     crosses-requires-2
     strike-requires-2
     crosses-requires-3

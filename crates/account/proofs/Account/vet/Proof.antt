@@ -52,7 +52,7 @@ takes-requires c κs = search needs
 returns-7 : tie.Need-returns-7
 unfolding rechargeRefusal
 returns-7 c =
-    let nothing = c .before .before .before in
+    let nothing = c .before .before in
     let over = nothing .before .before in
     let below = over .before .before in
     let again = below .before .before in
@@ -62,7 +62,7 @@ returns-7 c =
 returns-8 : tie.Need-returns-8
 unfolding rechargeRefusal
 returns-8 c =
-    let nothing = c .before .before .before in
+    let nothing = c .before .before in
     let over = nothing .before .before in
     let below = over .before .before in
     let again = below .before .before in

@@ -19,14 +19,14 @@ note-requires c κs = search needs
 returns-2 : tie.Need-returns-2
 unfolding valveAfter markCodes noteAll
 returns-2 c =
-    let w = c .before .before .before in
+    let w = c .before .before in
     let s = w .before in
     rw (not-false (s .args .hit) (w .if1 .left), not-true (s .args .closes) (c .if2 .taken), and-true (s .args .self .opened), c .before .note .ensures)
 
 returns-3 : tie.Need-returns-3
 unfolding valveAfter markCodes noteAll
 returns-3 c =
-    let w = c .before .before .before .before .before in
+    let w = c .before .before .before .before in
     let s = w .before in
     rw (not-false (s .args .hit) (w .if1 .left), not-false (s .args .closes) (c .before .before .if2 .left), not-true (s .args .self .opened) (c .if3 .taken), c .before .before .before .note .ensures)
 
@@ -36,7 +36,7 @@ note-requires-2 c κs = search needs
 returns-4 : tie.Need-returns-4
 unfolding valveAfter markCodes noteAll
 returns-4 c =
-    let w = c .before .before .before .before .before .before in
+    let w = c .before .before .before .before .before in
     let s = w .before in
     rw (not-false (s .args .hit) (w .if1 .left), not-false (s .args .closes) (c .before .before .before .if2 .left), not-false (s .args .self .opened) (c .before .if3 .left), c .note2 .ensures, c .before .before .before .before .note .ensures)
 

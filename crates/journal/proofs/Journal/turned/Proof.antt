@@ -45,7 +45,7 @@ push-requires-2 c κs = search needs
 returns-2 : tie.Need-returns-2
 unfolding turned
 returns-2 c =
-    let test = c .before .before .before .before .before in
+    let test = c .before .before .before in
     let days = test .before .before .before in
     rw (
       days .before .before .nothing .ensures,
