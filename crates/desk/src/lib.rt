@@ -52,76 +52,60 @@ impl Desk {
     pub fn pulses(self, p: Pulses) -> Played
         ensures { λ r. ⌜ r ≡ played self (pulsesCall p) ⌝ }
     {
-        let m = self.meter;
-        let b = self.book;
-        let o = m.pulses(p);
+        let o = self.meter.pulses(p);
         let d = o.done;
         let a = d.answer;
         if a.accepted() {
-            let n = p.count;
-            return Desk::ran(o, b.pulsed(p.stamp.date, n));
+            return Desk::ran(o, self.book.pulsed(p.stamp.date, p.count));
         }
-        Desk::ran(o, b)
+        Desk::ran(o, self.book)
     }
 
     pub fn recharge(self, p: Recharge) -> Played
         ensures { λ r. ⌜ r ≡ played self (rechargeCall p) ⌝ }
     {
-        let m = self.meter;
-        let b = self.book;
-        let o = m.recharge(p);
+        let o = self.meter.recharge(p);
         let d = o.done;
         let a = d.answer;
         if a.accepted() {
-            let amount = p.amount;
-            return Desk::ran(o, b.recharged(amount));
+            return Desk::ran(o, self.book.recharged(p.amount));
         }
-        Desk::ran(o, b)
+        Desk::ran(o, self.book)
     }
 
     pub fn load(self, p: Load, bytes: &[u8]) -> Played
         ensures { λ r. ⌜ r ≡ played self (loadCall p (now (bytes .entry))) ⌝ }
     {
-        let m = self.meter;
-        let b = self.book;
-        let o = m.load(p, bytes);
+        let o = self.meter.load(p, bytes);
         let d = o.done;
         let a = d.answer;
         if a.accepted() {
-            return Desk::ran(o, b.loaded(p.slot, bytes));
+            return Desk::ran(o, self.book.loaded(p.slot, bytes));
         }
-        Desk::ran(o, b)
+        Desk::ran(o, self.book)
     }
 
     pub fn alarms(self, p: Alarms) -> Played
         ensures { λ r. ⌜ r ≡ played self (alarmsCall p) ⌝ }
     {
-        let m = self.meter;
-        let b = self.book;
-        Desk::ran(m.alarms(p), b)
+        Desk::ran(self.meter.alarms(p), self.book)
     }
 
     pub fn command(self, p: Command) -> Played
         ensures { λ r. ⌜ r ≡ played self (commandCall p) ⌝ }
     {
-        let m = self.meter;
-        let b = self.book;
-        Desk::ran(m.command(p), b)
+        Desk::ran(self.meter.command(p), self.book)
     }
 
     pub fn key(self, p: Key) -> Played
         ensures { λ r. ⌜ r ≡ played self (keyCall p) ⌝ }
     {
-        let m = self.meter;
-        let b = self.book;
-        Desk::ran(m.key(p), b)
+        Desk::ran(self.meter.key(p), self.book)
     }
 
     pub fn tick(self, p: Tick) -> Played
         ensures { λ r. ⌜ r ≡ played self (tickCall p) ⌝ }
     {
-        let m = self.meter;
-        let b = self.book;
-        Desk::ran(m.tick(p), b)
+        Desk::ran(self.meter.tick(p), self.book)
     }
 }
