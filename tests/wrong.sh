@@ -1,8 +1,8 @@
 #!/usr/bin/env bash
 # Tries the wrong answers under crates/*/wrong: edits in the form of rt's must-fail ones, each of which the prover must
-# refuse. `rt must-fail` proves the whole crate again for each edit, half a minute for the meter; here a crate is checked
-# once over an incremental folder, and each edit over a copy of that, so that only what the edit touches is checked again.
-# What was proved before is trusted; a refusal is the prover's own.
+# refuse. `rt must-fail` proves the whole crate again for each edit; here each edit is checked over an incremental folder that
+# is filled with the modules that `rt ci` or `rt check` proved and wrote into the crate's rlib, so that only what the edit
+# touches is checked again. What was proved before is trusted; a refusal is the prover's own.
 #
 #   tests/wrong.sh [CRATE..]    in the repository's root, after `rt check` or `rt ci`
 #
@@ -60,7 +60,16 @@ try_edit() {
     fi
 }
 
-# checks crate $1 in a room of its own, then tries its edits
+# fills the incremental folder of crate $1 with its proved modules; the folder that the prover reads is named after its build
+fill() {
+    local built
+    rt dev answer >"$all/$1/answer.log" 2>&1 || return 1
+    built=$(basename target/inc/answer/antt-checked-*)
+    mkdir -p target/checked
+    cp -R "$repo/target/rlib/$1.rlib/toolchain/checked" "target/checked/$built"
+}
+
+# tries the edits of crate $1 in a room of its own, once it is seen that nothing of the crate itself is left to check there
 try_crate() {
     local room=$all/$1/room
     rm -rf "${all:?}/$1"
@@ -68,11 +77,11 @@ try_crate() {
     cp -R "$repo/crates" "$repo/crates.txt" .
     cp -R "$repo/target/stamp" "$repo/target/log" target/
     ln -s "$repo/target/rlib" target/rlib
-    if ! rt dev "$1" >"$all/$1/crate.log" 2>&1 || grep -q ' proved ([0-9]* s)' "$all/$1/crate.log"; then
+    fill "$1" && mkdir -p target/inc && cp -R target/checked "target/inc/$1"
+    if ! rt dev "$1" >"$all/$1/crate.log" 2>&1 || ! grep -q "^crate $1: .* checked=0\$" "$all/$1/crate.log"; then
         echo "wrong $1: NOT TRIED: the crate, or one below it, is not proved as it stands ($all/$1/crate.log)"
         return
     fi
-    mv "target/inc/$1" target/checked
     for edit in "$repo/crates/$1/wrong"/*.edit; do
         try_edit "$1" "$edit"
     done

@@ -39,6 +39,7 @@ use Rattle.meter.specs.Call.{Call, pulses, recharge, load, alarms, comma
 use Rattle.meter.specs.Refusals.{stampRefusal, pulseRefusal, keyAllowed, ownRefusal, refusalOf}
 use Rattle.meter.specs.Effects.{grown, priced, costOf, pulsed, effectOf}
 use Rattle.meter.specs.Machine.{after}
+use Rattle.meter.proofs.Outcomes.{stamp-passed}
 use Rattle.meter.proofs.State.{State, bounded-state, state-bounded}
 use Rattle.meter.proofs.Turned.{slots-in, slots-out, idle-in, idle-out, total-in, total-out, turn-state, turn-clock, turn-account, turn-volumes, turn-force, turn-load, Apart}
 
@@ -251,18 +252,14 @@ module _ (w : World) (L : Laws w) where
     pub own : ownRefusal w m c ≡ Accepted
 
   pub passed : (m : Meter) (c : Call) → refusalOf w m c ≡ Accepted → Passed m c
-  unfolding refusalOf stampRefusal
+  unfolding refusalOf
   passed m c h =
-      let back = notBefore (m .clock) (stampOf c) in
-      let c9 = need back 9 Accepted in
-      let c8 = need (stampGood w (stampOf c)) 8 c9 in
-      let a : need (bounded w m) 0 c8 ≡ Accepted = next-first (need (bounded w m) 0 c8) (ownRefusal w m c) h in
-      let b : c8 ≡ Accepted = need-rest (bounded w m) 0 c8 a in
+      let p = stamp-passed w m (stampOf c) (next-first (stampRefusal w m (stampOf c)) (ownRefusal w m c) h) in
       record {
-        bounds = need-first (bounded w m) 0 c8 a;
-        stamp = need-first (stampGood w (stampOf c)) 8 c9 b;
-        onward = need-first back 9 Accepted (need-rest (stampGood w (stampOf c)) 8 c9 b);
-        own = next-rest (need (bounded w m) 0 c8) (ownRefusal w m c) h;
+        bounds = p .0;
+        stamp = p .1;
+        onward = p .2;
+        own = next-rest (stampRefusal w m (stampOf c)) (ownRefusal w m c) h;
       }
 
   -- and the other way

@@ -16,7 +16,7 @@ use Rattle.account.specs.Codes.{noCodes, noteAll}
 use Rattle.account.proofs.Notes.{note-append}
 use Rattle.meter.specs.Turn.{turn, turnCodes}
 use Rattle.meter.specs.Effects.{effectOf, codesOf}
-use Rattle.slots.specs.World.{real}
+use Rattle.slots.specs.World.{World, real}
 use Rattle.meter.specs.declared.Meter.{Meter}
 use Rattle.meter.specs.Bounds.{stampGood, bounded}
 use Rattle.meter.specs.Call.{Call, stampOf}
@@ -56,14 +56,21 @@ pub refusal-own : (m : Meter) (c : Call) → stampRefusal real m (stampOf c) ≡
 unfolding refusalOf
 refusal-own m c h = rw h
 
--- what admission tells: within bounds, and a good stamp
-pub admitted-bounds : (m : Meter) (s : Stamp) → stampRefusal real m s ≡ Accepted → (bounded real m ≡ true) × (stampGood real s ≡ true) × (notBefore (m .clock) s ≡ true)
+-- what admission tells, in any world: within bounds, a good stamp, and not before the clock
+pub stamp-passed :
+    (w : World) (m : Meter) (s : Stamp) → stampRefusal w m s ≡ Accepted →
+    (bounded w m ≡ true) × (stampGood w s ≡ true) × (notBefore (m .clock) s ≡ true)
 unfolding stampRefusal
-admitted-bounds m s h =
+stamp-passed w m s h =
     let c9 = need (notBefore (m .clock) s) 9 Accepted in
-    let c8 = need (stampGood real s) 8 c9 in
-    let b : c8 ≡ Accepted = need-rest (bounded real m) 0 c8 h in
-    (need-first (bounded real m) 0 c8 h, need-first (stampGood real s) 8 c9 b, need-first (notBefore (m .clock) s) 9 Accepted (need-rest (stampGood real s) 8 c9 b))
+    let c8 = need (stampGood w s) 8 c9 in
+    let b : c8 ≡ Accepted = need-rest (bounded w m) 0 c8 h in
+    (need-first (bounded w m) 0 c8 h, need-first (stampGood w s) 8 c9 b, need-first (notBefore (m .clock) s) 9 Accepted (need-rest (stampGood w s) 8 c9 b))
+
+pub admitted-bounds :
+    (m : Meter) (s : Stamp) → stampRefusal real m s ≡ Accepted →
+    (bounded real m ≡ true) × (stampGood real s ≡ true) × (notBefore (m .clock) s ≡ true)
+admitted-bounds = stamp-passed real
 
 -- the reading of a stamp, in both cases
 pub read-on : (s : Stamp) {d : ℕ} → dated s ≡ On d → (stampGood real s ≡ true) × (d ≡ s .date)
