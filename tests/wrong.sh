@@ -53,7 +53,10 @@ try_edit() {
     rt dev "$name" >"$log" 2>&1
     status=$?
     first=$(grep -m 1 -oE "^[^ ]*: error|^note: [^ ]*:[0-9]+:[0-9]+:" "$log" | sed "s|^note: ||; s|: error\$||; s|:\$||; s|.*/crates/$name/||")
-    if [ "$status" -eq 1 ] && grep -q '^logic=not-proved' "$log" && [ -n "$first" ]; then
+    # an edit that only makes the proof unfit for the code shows nothing
+    if grep -m 1 ': error' "$log" | grep -qE 'that can be named from here|has no field'; then
+        echo "wrong $name/$label: SHOWS NOTHING: its first error is a missing need or field ($log)"
+    elif [ "$status" -eq 1 ] && grep -q '^logic=not-proved' "$log" && [ -n "$first" ]; then
         echo "wrong $name/$label: refused, as it must be (first at $first; $(($(date +%s) - began)) s)"
     else
         echo "wrong $name/$label: NOT REFUSED by the prover (exit $status; $log)"
