@@ -20,8 +20,8 @@ use Rattle.account.proofs.Kept.{account-room, recharge-small}
 use Rattle.journal.proofs.Room.{room}
 use Rattle.slots.specs.declared.Slot.{Slot}
 use Rattle.slots.specs.World.{real}
-use Rattle.slots.specs.Slots.{inSlot, fee}
-use Rattle.slots.specs.Bounds.{slotGood, freshSlots}
+use Rattle.slots.specs.Slots.{inSlot, someForce, slotOn, forceOn, fee, slotsTurned}
+use Rattle.slots.specs.Bounds.{slotGood, apart, freshSlots}
 use Rattle.slots.proofs.Real.{real-laws}
 use Rattle.meter.specs.declared.Volumes.{Volumes}
 use Rattle.meter.specs.declared.Meter.{Meter}
@@ -50,6 +50,9 @@ slot-one m s = slots-in real real-laws (m .slots) (m .clock .date) (m .volumes .
 
 pub slot-two : (m : Meter) → State real real-laws m → slotGood real (m .slots .two) ≡ true
 slot-two m s = slots-in real real-laws (m .slots) (m .clock .date) (m .volumes .total .0) (s .slots) .two
+
+pub slots-apart : (m : Meter) → State real real-laws m → apart real (m .slots .one) (m .slots .two) (m .clock .date) ≡ true
+slots-apart m s = slots-in real real-laws (m .slots) (m .clock .date) (m .volumes .total .0) (s .slots) .apart
 
 -- a plan in force on the clock's date: the clock has a date
 no-slot : (s : Slot) (d : ℕ) → s .loaded ≡ false → inSlot real s d ≡ false
@@ -80,15 +83,12 @@ unclocked : (m : Meter) → bounded real m ≡ true → noClock m ≡ true → i
 unfolding bounded
 unclocked m h q = rw q at h
 
-pub date-one : (m : Meter) → bounded real m ≡ true → inSlot real (m .slots .one) (m .clock .date) ≡ true → isDate (m .clock .date) ≡ true
-date-one m h i = cases (noClock m)
-    (λ q. absurd (never i (no-slot (m .slots .one) (m .clock .date) (fresh-unloaded m (unclocked m h q) .0))))
-    (λ q. clocked m h q)
-
-pub date-two : (m : Meter) → bounded real m ≡ true → inSlot real (m .slots .two) (m .clock .date) ≡ true → isDate (m .clock .date) ≡ true
-date-two m h i = cases (noClock m)
-    (λ q. absurd (never i (no-slot (m .slots .two) (m .clock .date) (fresh-unloaded m (unclocked m h q) .1))))
-    (λ q. clocked m h q)
+pub date-some : (m : Meter) → bounded real m ≡ true → someForce real (m .slots) (m .clock .date) ≡ true → isDate (m .clock .date) ≡ true
+unfolding someForce
+date-some m h i = cases (noClock m) (λ q. absurd (never i (none (fresh-unloaded m (unclocked m h q))))) (λ q. clocked m h q)
+  where
+    none : (m .slots .one .loaded ≡ false) × (m .slots .two .loaded ≡ false) → someForce real (m .slots) (m .clock .date) ≡ false
+    none u = rw (no-slot (m .slots .one) (m .clock .date) (u .0), no-slot (m .slots .two) (m .clock .date) (u .1))
 
 pub stamp-date : (s : Stamp) → stampGood real s ≡ true → isDate (s .date) ≡ true
 unfolding stampGood
@@ -153,6 +153,18 @@ same-day-codes m s h = rw (le-ltb _ _ h)
 pub clock-set : (m : Meter) (s : Stamp) → withClock (turn real m s) s ≡ turn real m s
 unfolding turn turnedTo
 clock-set m s = cases (ltb (m .clock .date) (s .date)) (λ h. rw h) (λ h. rw h)
+
+-- the slot in force on the stamp's date, after the turn and before it
+pub later-force : (m : Meter) (s : Stamp) → forceOn real (m .slots) (s .date) ≡ forceOn real (turn real m s .slots) (s .date)
+unfolding turn turnedTo slotsTurned slotOn
+later-force m s = cases (ltb (m .clock .date) (s .date)) (λ h. rw h) (λ h. rw h)
+
+pub same-force :
+    (m : Meter) (s : Stamp) → stampRefusal real m s ≡ Accepted → s .date ≤ m .clock .date →
+    forceOn real (m .slots) (m .clock .date) ≡ forceOn real (turn real m s .slots) (s .date)
+same-force m s h l =
+    let e : m .clock .date ≡ s .date = omega (arith, not-before-date (m .clock) s (admitted-bounds m s h .2)) in
+    ap (forceOn real (m .slots)) e ∙ later-force m s
 
 -- an account within its bounds
 pub small-balance : (m : Meter) → State real real-laws m → Small (m .account .balance .0)

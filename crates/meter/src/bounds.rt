@@ -3,6 +3,7 @@ use crate::Meter;
 use crate::Volumes;
 ghost use mathlib.Core.Path.{_≡_};
 ghost use Rattle.slots.specs.World.{real};
+ghost use Rattle.slots.specs.Slots.{someForce};
 ghost use Rattle.meter.specs.Bounds.{freshVolumes, isFresh, volumesGood, stateGood, bounded};
 
 impl Volumes {
@@ -30,23 +31,32 @@ impl Meter {
                         && (self.valve.is_fresh() && self.journal.is_fresh()))))
     }
 
-    fn state_good(self) -> bool
+    fn state_good(self, some: bool) -> bool
+        requires { ⌜ some ≡ someForce real (self .slots) (self .clock .date) ⌝ }
         ensures { λ r. ⌜ r ≡ stateGood real self ⌝ }
     {
         self.volumes.is_good()
             && (self.account.is_good(self.volumes.total)
                 && (self.slots.is_good(self.clock.date, self.volumes.total)
                     && (self.journal.is_good(self.volumes.total)
-                        && self.slots.idle_good(self.valve.opened, self.clock.date))))
+                        && self.slots.idle_good(some, self.valve.opened))))
+    }
+
+    // Whether the meter is within its bounds, `some` being whether a plan is in force on the clock's date.
+    pub(crate) fn bounded_on(self, some: bool) -> bool
+        requires { ⌜ some ≡ someForce real (self .slots) (self .clock .date) ⌝ }
+        ensures { λ r. ⌜ r ≡ bounded real self ⌝ }
+    {
+        if self.clock.date == 0 {
+            return self.is_fresh();
+        }
+        self.clock.is_stamp() && self.state_good(some)
     }
 
     // Whether the meter is within its bounds: refusal 0 where it is not.
     pub fn is_bounded(self) -> bool
         ensures { λ r. ⌜ r ≡ bounded real self ⌝ }
     {
-        if self.clock.date == 0 {
-            return self.is_fresh();
-        }
-        self.clock.is_stamp() && self.state_good()
+        self.bounded_on(self.slots.some_force(self.clock.date))
     }
 }

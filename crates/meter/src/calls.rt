@@ -22,7 +22,8 @@ impl Meter {
     pub fn pulses(self, p: Pulses) -> Outcome
         ensures { λ r. ⌜ r ≡ outcome self (pulsesCall p) ⌝ }
     {
-        let d = self.admit(p.stamp);
+        let mut f = self.slots.force(self.clock.date);
+        let d = self.admit_on(f.slot != 0, p.stamp);
         let Dated::On(_) = d else {
             return self.declined(d);
         };
@@ -33,11 +34,13 @@ impl Meter {
         let mut m = self;
         let mut codes = Codes::none();
         if self.clock.date < p.stamp.date {
-            let t = self.turn(p.stamp);
+            let is = self.slots.force(p.stamp.date);
+            let t = self.turned(f, is, p.stamp);
             m = t.meter;
             codes = t.codes;
+            f = is;
         }
-        m.pulsed(p.stamp, p.count, codes)
+        m.pulsed(f, p.stamp, p.count, codes)
     }
 
     // A recharge bought at a counter.

@@ -4,6 +4,8 @@ use mathlib.Core.Logic.{_⊎_, ⊎-elim}
 use Rattle.account.specs.Codes.{noCodes, noteAll}
 use Rattle.answer.specs.declared.Answer.the-variants.{Accepted}
 use Rattle.slots.specs.World.{real}
+use Rattle.slots.specs.Slots.{forceOn}
+use Rattle.slots.proofs.InForce.{its-some}
 use Rattle.meter.specs.declared.Meter.{Meter}
 use Rattle.meter.specs.Meter.{withClock}
 use Rattle.meter.specs.Turn.{turn, turnCodes}
@@ -14,13 +16,16 @@ use Rattle.meter.specs.Effects.{effectOf, codesOf}
 use Rattle.meter.proofs.Outcomes.{not-admitted, admitted, own-refused, accepts, admitted-bounds}
 use Rattle.meter.proofs.Turned.{total-low, turn-volumes}
 use Rattle.slots.proofs.Real.{real-laws}
-use Rattle.meter.proofs.Rooms.{state, turned-good, pulses-fit, same-day, same-day-codes, clock-set}
+use Rattle.meter.proofs.Rooms.{state, turned-good, pulses-fit, same-day, same-day-codes, clock-set, later-force, same-force}
 use borrow.Author.Needs.{needs}
 use Rattle.meter.proofs.Meter.pulses.Statement.{statement}
 use Rattle.meter.proofs.Meter.pulses.Tie as tie
 
-admit-requires : tie.Need-admit-requires
-admit-requires c κs = search needs
+force-requires : tie.Need-force-requires
+force-requires c κs = search needs
+
+admit-on-requires : tie.Need-admit-on-requires
+admit-on-requires c κs = its-some real (c .before .before .args .self .slots) (c .before .force .ensures)
 
 enum-told : tie.Need-enum-told
 enum-told c = search needs
@@ -33,16 +38,17 @@ declined-requires c κs = search needs
 
 returns : tie.Need-returns
 returns c =
-    let m = c .before .before .before .before .args .self in
+    let s = c .before .before .before .before .before .before in
+    let m = s .args .self in
     let q = c .before .enum-told2 .given .1 in
-    c .declined .ensures ∙ ap (declinedOf m) q ∙ sym (not-admitted m (call (c .before .before .before .before .args .p)) _ (sym (c .before .before .before .admit .ensures) ∙ q))
+    c .declined .ensures ∙ ap (declinedOf m) q ∙ sym (not-admitted m (call (s .args .p)) _ (sym (c .before .before .before .admit-on .ensures) ∙ q))
 
 vet-requires : tie.Need-vet-requires
 vet-requires c κs =
-    let m = c .before .before .before .args .self in
-    let s = c .before .before .before .args .p .stamp in
-    let a : stampRefusal real m s ≡ Accepted = admitted m s _ (sym (c .before .before .admit .ensures) ∙ c .enum-told .given .1) .0 in
-    total-low real real-laws m (state m (admitted-bounds m s a .0))
+    let s = c .before .before .before .before .before in
+    let m = s .args .self in
+    let a : stampRefusal real m (s .args .p .stamp) ≡ Accepted = admitted m (s .args .p .stamp) _ (sym (c .before .before .admit-on .ensures) ∙ c .enum-told .given .1) .0 in
+    total-low real real-laws m (state m (admitted-bounds m (s .args .p .stamp) a .0))
 
 enum-told-3 : tie.Need-enum-told-3
 enum-told-3 c = search needs
@@ -56,58 +62,83 @@ denied-requires c κs = search needs
 returns-2 : tie.Need-returns-2
 unfolding ownRefusal
 returns-2 c =
-    let m = c .before .before .before .before .before .before .before .args .self in
-    let p = c .before .before .before .before .before .before .before .args .p in
-    let a : stampRefusal real m (p .stamp) ≡ Accepted = admitted m (p .stamp) _ (sym (c .before .before .before .before .before .before .admit .ensures) ∙ c .before .before .before .before .enum-told .given .1) .0 in
+    let s = c .before .before .before .before .before .before .before .before .before in
+    let m = s .args .self in
+    let p = s .args .p in
+    let a : stampRefusal real m (p .stamp) ≡ Accepted = admitted m (p .stamp) _ (sym (c .before .before .before .before .before .before .admit-on .ensures) ∙ c .before .before .before .before .enum-told .given .1) .0 in
     let q = c .before .enum-told4 .given .1 in
     c .denied .ensures ∙ ap (deniedOf m) q ∙ sym (own-refused m (call p) _ a (sym (c .before .before .before .vet .ensures) ∙ q))
 
 none-requires : tie.Need-none-requires
 none-requires c κs = search needs
 
-turn-requires : tie.Need-turn-requires
-turn-requires c κs =
-    let m = c .before .before .before .before .before .before .before .before .before .before .args .self in
-    let s = c .before .before .before .before .before .before .before .before .before .before .args .p .stamp in
-    let a : stampRefusal real m s ≡ Accepted = admitted m s _ (sym (c .before .before .before .before .before .before .before .before .before .admit .ensures) ∙ c .before .before .before .before .before .before .before .enum-told .given .1) .0 in
-    let b = admitted-bounds m s a in
-    (b .0, b .1)
+force-requires-2 : tie.Need-force-requires-2
+force-requires-2 c κs = search needs
 
--- whether the day turned or not, the meter is the turned one but for its clock, and the codes are those of the turn
-joined : (c : tie.Joined1) → (withClock (c .if1 .m) (c .before .before .before .before .before .before .before .before .before .before .args .p .stamp) ≡ turn real (c .before .before .before .before .before .before .before .before .before .before .args .self) (c .before .before .before .before .before .before .before .before .before .before .args .p .stamp)) × (c .if1 .codes ≡ noteAll noCodes (turnCodes real (c .before .before .before .before .before .before .before .before .before .before .args .self) (c .before .before .before .before .before .before .before .before .before .before .args .p .stamp)))
+turned-requires : tie.Need-turned-requires
+turned-requires c κs =
+    let s = c .before .before .before .before .before .before .before .before .before .before .before .before .before in
+    let m = s .args .self in
+    let a : stampRefusal real m (s .args .p .stamp) ≡ Accepted = admitted m (s .args .p .stamp) _ (sym (c .before .before .before .before .before .before .before .before .before .before .admit-on .ensures) ∙ c .before .before .before .before .before .before .before .before .enum-told .given .1) .0 in
+    let b = admitted-bounds m (s .args .p .stamp) a in
+    (b .0, (b .1, (c .before .if1 .taken, (c .before .before .before .before .before .before .before .before .before .before .before .before .force .ensures, c .force2 .ensures))))
+
+-- the stamp is admitted
+stamped : (c : tie.Joined1) → stampRefusal real (c .before .before .before .before .before .before .before .before .before .before .before .before .args .self) (c .before .before .before .before .before .before .before .before .before .before .before .before .args .p .stamp) ≡ Accepted
+stamped c =
+    let s = c .before .before .before .before .before .before .before .before .before .before .before .before in
+    admitted (s .args .self) (s .args .p .stamp) _ (sym (c .before .before .before .before .before .before .before .before .before .admit-on .ensures) ∙ c .before .before .before .before .before .before .before .enum-told .given .1) .0
+
+-- whether the day turned or not, the meter is the turned one but for its clock, the codes are those of the turn, and the slot is that in
+-- force on the stamp's date
+record Met (c : tie.Joined1) : Type 0 where
+  meter : withClock (c .if1 .m) (c .before .before .before .before .before .before .before .before .before .before .before .before .args .p .stamp) ≡ turn real (c .before .before .before .before .before .before .before .before .before .before .before .before .args .self) (c .before .before .before .before .before .before .before .before .before .before .before .before .args .p .stamp)
+  codes : c .if1 .codes ≡ noteAll noCodes (turnCodes real (c .before .before .before .before .before .before .before .before .before .before .before .before .args .self) (c .before .before .before .before .before .before .before .before .before .before .before .before .args .p .stamp))
+  force : c .if1 .f ≡ forceOn real (turn real (c .before .before .before .before .before .before .before .before .before .before .before .before .args .self) (c .before .before .before .before .before .before .before .before .before .before .before .before .args .p .stamp) .slots) (c .before .before .before .before .before .before .before .before .before .before .before .before .args .p .stamp .date)
+
+met : (c : tie.Joined1) → Met c
 unfolding noteAll
-joined c =
-    let m = c .before .before .before .before .before .before .before .before .before .before .args .self in
-    let s = c .before .before .before .before .before .before .before .before .before .before .args .p .stamp in
+met c =
+    let m = c .before .before .before .before .before .before .before .before .before .before .before .before .args .self in
+    let s = c .before .before .before .before .before .before .before .before .before .before .before .before .args .p .stamp in
     ⊎-elim
-    (λ w. (ap (λ (x : Meter). withClock x s) (w .4 ∙ w .1 .ensures .0) ∙ clock-set m s, w .5 ∙ w .1 .ensures .1))
-    (λ w. (ap (λ (x : Meter). withClock x s) (w .1) ∙ sym (same-day m s (w .0 .left)), w .2 ∙ c .before .before .before .none .ensures ∙ sym (ap (noteAll noCodes) (same-day-codes m s (w .0 .left)))))
+    (λ w. record {
+      meter = ap (λ (x : Meter). withClock x s) (w .6 ∙ w .2 .ensures .0) ∙ clock-set m s;
+      codes = w .7 ∙ w .2 .ensures .1;
+      force = w .5 ∙ w .1 .ensures ∙ later-force m s;
+    })
+    (λ w. record {
+      meter = ap (λ (x : Meter). withClock x s) (w .2) ∙ sym (same-day m s (w .0 .left));
+      codes = w .3 ∙ c .before .before .before .none .ensures ∙ sym (ap (noteAll noCodes) (same-day-codes m s (w .0 .left)));
+      force = w .1 ∙ c .before .before .before .before .before .before .before .before .before .before .before .force .ensures ∙ same-force m s (stamped c) (w .0 .left);
+    })
     (c .if1 .came)
 
 pulsed-requires : tie.Need-pulsed-requires
 pulsed-requires c κs =
-    let m = c .before .before .before .before .before .before .before .before .before .before .args .self in
-    let p = c .before .before .before .before .before .before .before .before .before .before .args .p in
-    let a : stampRefusal real m (p .stamp) ≡ Accepted = admitted m (p .stamp) _ (sym (c .before .before .before .before .before .before .before .before .before .admit .ensures) ∙ c .before .before .before .before .before .before .before .enum-told .given .1) .0 in
+    let m = c .before .before .before .before .before .before .before .before .before .before .before .before .args .self in
+    let p = c .before .before .before .before .before .before .before .before .before .before .before .before .args .p in
+    let e = met c in
     let f = pulses-fit m (p .stamp) (p .count .0) (sym (c .before .before .before .before .before .before .vet .ensures) ∙ c .before .before .before .before .enum-told3 .given .1) in
-    (rw (joined c .0) (turned-good m (p .stamp) a), rw (sym (joined c .0)) at f)
+    (rw (e .meter) (turned-good m (p .stamp) (stamped c)), (e .force ∙ sym (ap (λ (x : Meter). forceOn real (x .slots) (p .stamp .date)) (e .meter)), rw (sym (e .meter)) at f))
 
 returns-3 : tie.Need-returns-3
 unfolding ownRefusal effectOf codesOf
 returns-3 c =
-    let m = c .before .before .before .before .before .before .before .before .before .before .before .args .self in
-    let p = c .before .before .before .before .before .before .before .before .before .before .before .args .p in
-    let a : stampRefusal real m (p .stamp) ≡ Accepted = admitted m (p .stamp) _ (sym (c .before .before .before .before .before .before .before .before .before .before .admit .ensures) ∙ c .before .before .before .before .before .before .before .before .enum-told .given .1) .0 in
+    let m = c .before .before .before .before .before .before .before .before .before .before .before .before .before .args .self in
+    let p = c .before .before .before .before .before .before .before .before .before .before .before .before .before .args .p in
+    let e = met (c .before) in
     c .pulsed .ensures
-    ∙ accepts m (call p) a (sym (c .before .before .before .before .before .before .before .vet .ensures) ∙ c .before .before .before .before .before .enum-told3 .given .1)
-    (rw (joined (c .before) .0))
-    (rw (joined (c .before) .1, joined (c .before) .0))
+    ∙ accepts m (call p) (stamped (c .before)) (sym (c .before .before .before .before .before .before .before .vet .ensures) ∙ c .before .before .before .before .before .enum-told3 .given .1)
+    (rw (e .meter))
+    (rw (e .codes, e .meter))
 
 pub pulses-spec : {M : Type 1} → statement M
 pulses-spec =
     tie.close
     (tie.spec
-    admit-requires
+    force-requires
+    admit-on-requires
     enum-told
     enum-told-2
     declined-requires
@@ -118,6 +149,7 @@ pulses-spec =
     denied-requires
     returns-2
     none-requires
-    turn-requires
+    force-requires-2
+    turned-requires
     pulsed-requires
     returns-3)

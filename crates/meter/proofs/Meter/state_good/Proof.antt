@@ -1,4 +1,5 @@
 -- Each test of the definition is made, in its order.
+use Rattle.slots.specs.Bounds.{idleGood}
 use Rattle.meter.specs.Bounds.{stateGood}
 use borrow.Author.Needs.{needs}
 use Rattle.meter.proofs.Meter.state_good.Statement.{statement}
@@ -20,8 +21,8 @@ idle-good-requires : tie.Need-idle-good-requires
 idle-good-requires c κs = search needs
 
 returns : tie.Need-returns
-unfolding stateGood
-returns c = rw (← c .before .before .before .before .before .before .before .before .is-good .ensures, c .before .before .before .before .before .before .before .if1 .taken, ← c .before .before .before .before .before .before .is-good2 .ensures, c .before .before .before .before .before .if2 .taken, ← c .before .before .before .before .is-good3 .ensures, c .before .before .before .if3 .taken, ← c .before .before .is-good4 .ensures, c .before .if4 .taken, c .idle-good .ensures)
+unfolding stateGood idleGood
+returns c = rw (← c .before .before .before .before .before .before .before .before .is-good .ensures, c .before .before .before .before .before .before .before .if1 .taken, ← c .before .before .before .before .before .before .is-good2 .ensures, c .before .before .before .before .before .if2 .taken, ← c .before .before .before .before .is-good3 .ensures, c .before .before .before .if3 .taken, ← c .before .before .is-good4 .ensures, c .before .if4 .taken, c .idle-good .ensures, c .before .before .before .before .before .before .before .before .before .pre)
 
 returns-2 : tie.Need-returns-2
 unfolding stateGood

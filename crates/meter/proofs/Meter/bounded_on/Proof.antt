@@ -3,8 +3,8 @@ use Rattle.calendar.specs.Stamp.{isStamp}
 use Rattle.meter.specs.Bounds.{bounded, stampGood}
 use borrow.Author.Tests.{ne-eqb, eq-eqb}
 use borrow.Author.Needs.{needs}
-use Rattle.meter.proofs.Meter.is_bounded.Statement.{statement}
-use Rattle.meter.proofs.Meter.is_bounded.Tie as tie
+use Rattle.meter.proofs.Meter.bounded_on.Statement.{statement}
+use Rattle.meter.proofs.Meter.bounded_on.Tie as tie
 
 is-fresh-requires : tie.Need-is-fresh-requires
 is-fresh-requires c κs = search needs
@@ -27,7 +27,7 @@ returns-3 : tie.Need-returns-3
 unfolding bounded stampGood isStamp
 returns-3 c = rw (ne-eqb _ _ (c .before .before .if1 .left), ← c .before .is-stamp .ensures, c .if2 .left)
 
-pub is-bounded-spec : {M : Type 1} → statement M
-is-bounded-spec =
+pub bounded-on-spec : {M : Type 1} → statement M
+bounded-on-spec =
     tie.close
     (tie.spec is-fresh-requires returns is-stamp-requires state-good-requires returns-2 returns-3)
