@@ -2,7 +2,7 @@
 use mathlib.Core.Path.{_≡_, refl, sym, ap, _∙_, subst}
 use mathlib.Core.List.{List, [], _∷_}
 use Rattle.slots.specs.World.{real}
-use Rattle.meter.specs.Meter.{fresh}
+use Rattle.state.specs.State.{fresh}
 use Rattle.meter.specs.Call.{Call}
 use Rattle.meter.specs.Machine.{outcome, left}
 use Rattle.ledger.specs.Lists.{run}
@@ -12,7 +12,7 @@ use Rattle.book.proofs.Proved.{book-kept}
 use Rattle.desk.specs.declared.Desk.{Desk}
 use Rattle.desk.specs.Desk.{newDesk, played, deskOf, Agrees, AlwaysAgrees}
 
-desk-run : (d : Desk) (cs : List Call) → deskOf d cs ≡ record { meter = run real (d .meter) cs; book = bookOfRun (d .meter) (d .book) cs }
+desk-run : (d : Desk) (cs : List Call) → deskOf d cs ≡ record { meter = record { state = run real (d .meter .state) cs }; book = bookOfRun (d .meter .state) (d .book) cs }
 unfolding deskOf run bookOfRun played outcome
 desk-run d [] = refl
 desk-run d (c ∷ cs) = desk-run (played d c .desk) cs

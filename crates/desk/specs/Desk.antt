@@ -5,7 +5,7 @@ use mathlib.Core.List.{List, [], _∷_}
 use lib.IntN.{pos, _-ℤ_}
 use Rattle.answer.specs.Answer.{isAccepted}
 use Rattle.meter.specs.declared.Outcome.{Outcome}
-use Rattle.meter.specs.Meter.{fresh}
+use Rattle.state.specs.State.{fresh}
 use Rattle.meter.specs.Call.{Call}
 use Rattle.meter.specs.Machine.{outcome}
 use Rattle.book.specs.declared.Book.{Book}
@@ -15,7 +15,7 @@ use Rattle.desk.specs.declared.Desk.{Desk}
 use Rattle.desk.specs.declared.Played.{Played}
 
 unfoldable pub newDesk : Desk
-newDesk = record { meter = fresh; book = blankBook }
+newDesk = record { meter = record { state = fresh }; book = blankBook }
 
 abbrev pub ranBy : Outcome → Book → Played
 ranBy o b = record { desk = record { meter = o .meter; book = b }; done = o .done }
@@ -31,7 +31,7 @@ deskOf d (c ∷ cs) = deskOf (played d c .desk) cs
 
 -- the ledger's sum is recharges minus balance, whatever was played
 abbrev pub Agrees : Desk → Type 0
-Agrees d = pos (d .book .recharged .0) -ℤ d .meter .account .balance .0 ≡ pos (bookSum (d .book))
+Agrees d = pos (d .book .recharged .0) -ℤ d .meter .state .account .balance .0 ≡ pos (bookSum (d .book))
 
 abbrev pub AlwaysAgrees : Type 0
 AlwaysAgrees = (cs : List Call) → Agrees (deskOf newDesk cs)

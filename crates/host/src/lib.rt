@@ -30,7 +30,7 @@ ghost use mathlib.Core.Path.{_≡_};
 ghost use Prim.Native.Nat.{ℕ};
 ghost use Rattle.record.specs.Record.{readOf, writeAnswer, written};
 ghost use Rattle.record.specs.Choice.{choiceOf};
-ghost use Rattle.meter.specs.Meter.{fresh};
+ghost use Rattle.state.specs.State.{fresh};
 ghost use Rattle.meter.specs.Call.{pulses as pulsesCall, recharge as rechargeCall, load as loadCall, alarms as alarmsCall, command as commandCall, key as keyCall, tick as tickCall};
 ghost use Rattle.meter.specs.Machine.{outcome};
 ghost use Rattle.query.specs.Queries.{stepAnswer, displayAnswer, dayAnswer, monthAnswer, sumAnswer};
@@ -119,7 +119,7 @@ fn reply_of(d: Done) -> Reply
 
 #[no_mangle]
 pub extern "C" fn harpdapple_fresh() -> Meter
-    ensures { λ r. ⌜ r ≡ fresh ⌝ }
+    ensures { λ r. ⌜ r .state ≡ fresh ⌝ }
 {
     Meter::fresh()
 }

@@ -17,10 +17,8 @@ use Rattle.calendar.specs.Stamp.{notBefore}
 use Rattle.calendar.proofs.Stamps.{not-before-date}
 use Rattle.account.specs.Account.{alarmsGood, freshAccount}
 use Rattle.account.specs.Valve.{freshValve}
-use Rattle.account.specs.Fall.{Mark, marks, valveAfter, fallValve}
-use Rattle.account.proofs.Kept.{charged-good, recharged-good, alarmed-good}
+use Rattle.account.proofs.Kept.{recharged-good, alarmed-good}
 use Rattle.journal.specs.Bounds.{freshJournal}
-use Rattle.journal.proofs.Kept.{counted-good}
 use Rattle.plan.specs.declared.Plan.{Plan}
 use Rattle.record.specs.declared.Reading.{Reading}
 use Rattle.record.specs.Record.{readOf}
@@ -31,79 +29,22 @@ use Rattle.slots.specs.Laws.{Laws}
 use Rattle.slots.specs.Slots.{inSlot, someForce, chargeOn, fee, used, keeps}
 use Rattle.slots.specs.Load.{slotAt, otherAt, holding, meetsSlot, loadRefusal, loaded}
 use Rattle.slots.specs.Bounds.{slotGood, apart, freshSlots}
-use Rattle.meter.specs.declared.Meter.{Meter}
-use Rattle.meter.specs.Meter.{fresh}
-use Rattle.meter.specs.Bounds.{stampGood, bounded, isFresh, freshVolumes}
-use Rattle.meter.specs.Turn.{turn}
+use Rattle.state.specs.declared.State.{State}
+use Rattle.state.specs.State.{fresh}
+use Rattle.state.specs.Bounds.{stampGood, bounded, isFresh, freshVolumes}
+use Rattle.state.specs.Turn.{turn}
+use Rattle.state.specs.Refusals.{stampRefusal, pulseRefusal, keyAllowed}
+use Rattle.state.specs.Pulsed.{pulsed}
+use Rattle.state.proofs.Admitted.{stamp-passed}
+use Rattle.state.proofs.Parts.{Parts, bounded-state, state-bounded}
+use Rattle.state.proofs.Turned.{slots-in, slots-out, idle-in, idle-out, turn-state, turn-clock, turn-account, turn-volumes, turn-force, turn-load}
+use Rattle.state.proofs.Pulses.{pulsed-state}
 use Rattle.meter.specs.Call.{Call, pulses, recharge, load, alarms, command, key, tick, stampOf}
-use Rattle.meter.specs.Refusals.{stampRefusal, pulseRefusal, keyAllowed, ownRefusal, refusalOf}
-use Rattle.meter.specs.Effects.{grown, priced, costOf, pulsed, effectOf}
+use Rattle.meter.specs.Refusals.{ownRefusal, refusalOf}
+use Rattle.meter.specs.Effects.{effectOf}
 use Rattle.meter.specs.Machine.{after}
-use Rattle.meter.proofs.Outcomes.{stamp-passed}
-use Rattle.meter.proofs.State.{State, bounded-state, state-bounded}
-use Rattle.meter.proofs.Turned.{slots-in, slots-out, idle-in, idle-out, total-in, total-out, turn-state, turn-clock, turn-account, turn-volumes, turn-force, turn-load, Apart}
 
 module _ (w : World) (L : Laws w) where
-  -- pulses
-  good-charge : (s : Slot) (d u n : ℕ) → slotGood w s ≡ true → inSlot w s d ≡ true → w .charge (s .plan) (u + n) ≤ w .charge (s .plan) u + n * 99999999
-  unfolding slotGood inSlot
-  good-charge s d u n h i =
-      let l : s .loaded ≡ true = and-left (s .loaded) (w .force (s .plan) d) i in
-      L .charge-cap (s .plan) u n (rw l at h)
-
-  -- n pulses cost at most the highest price for each
-  pub fee-cap : (s : Slots) (d total n : ℕ) → Apart w L s d total → fee w s d n ≤ n * 99999999
-  unfolding fee chargeOn
-  fee-cap s d total n a = cases (inSlot w (s .one) d)
-      (λ i. rw i (omega (arith, good-charge (s .one) d (s .usage .0) n (a .one) i)))
-      (λ i. rw i (cases (inSlot w (s .two) d)
-      (λ j. rw j (omega (arith, good-charge (s .two) d (s .usage .0) n (a .two) j)))
-      (λ j. rw j (omega arith))))
-
-  used-low : (b : Bool) (u n total : ℕ) → u ≤ total → cond b (u + n) u ≤ total + n
-  used-low true u n total h = omega arith
-  used-low false u n total h = omega arith
-
-  unpriced-low : (b : Bool) (u n total : ℕ) → u ≤ total → cond b u (u + n) ≤ total + n
-  unpriced-low true u n total h = omega arith
-  unpriced-low false u n total h = omega arith
-
-  closed-stays : (ts : List Mark) (was is : ℤ) → fallValve ts was is false ≡ false
-  unfolding fallValve valveAfter
-  closed-stays [] was is = refl
-  closed-stays (t ∷ ts) was is = closed-stays ts was is
-
-  slots-used : (s : Slots) (b : Bool) (d n total : ℕ) → Apart w L s d total → Apart w L (used s b n) d (total + n)
-  unfolding used
-  slots-used s b d n total a = record { one = a .one; two = a .two; apart = a .apart; usage = used-low b (s .usage .0) n total (a .usage) }
-
-  force-used : (s : Slots) (b : Bool) (n d : ℕ) → someForce w (used s b n) d ≡ someForce w s d
-  unfolding someForce used
-  force-used s b n d = refl
-
-  used-none : (s : Slots) (b : Bool) (n : ℕ) → b ≡ false → used s b n .usage .0 ≡ s .usage .0
-  unfolding used
-  used-none s b n h = rw h
-
-  pulsed-state : (m : Meter) (n : ℕ) → m .volumes .total .0 + n ≤ highestTotal → State w L m → State w L (pulsed w m n)
-  unfolding pulsed grown
-  pulsed-state m n h i =
-      let t = m .volumes .total .0 in
-      let a = slots-in w L (m .slots) (m .clock .date) t (i .slots) in
-      let c = fee-cap (m .slots) (m .clock .date) t n a in
-      record {
-        volumes = total-out w L (grown (m .volumes) (priced w m) n) h (unpriced-low (priced w m) (m .volumes .unpriced .0) n t (total-in w L (m .volumes) (i .volumes) .1));
-        account = charged-good (m .account) t n (costOf w m n) c (i .account);
-        slots = slots-out w L (used (m .slots) (priced w m) n) (m .clock .date) (t + n) (slots-used (m .slots) (priced w m) (m .clock .date) n t a);
-        journal = counted-good t n (costOf w m n) (m .journal) c (i .journal);
-        idle = idle-out w L (pulsed w m n) (λ f.
-            let g : someForce w (m .slots) (m .clock .date) ≡ false = sym (force-used (m .slots) (priced w m) n (m .clock .date)) ∙ f in
-            let z = idle-in w L m i g in (
-              used-none (m .slots) (priced w m) n g ∙ z .0,
-              ap (fallValve (marks (m .account)) (m .account .balance .0) _) (z .1) ∙ closed-stays (marks (m .account)) (m .account .balance .0) _,
-            ));
-      }
-
   -- a load
   slot-held : (p : Plan) → w .good p ≡ true → slotGood w (holding p) ≡ true
   unfolding slotGood
@@ -130,8 +71,8 @@ module _ (w : World) (L : Laws w) where
   unfolding someForce
   force-two s p d h f = neither (inSlot w (s .one) d) (inSlot w (s .two) d) (or-left (inSlot w (s .one) d) (inSlot w (holding p) d) f) h
 
-  load-state : (m : Meter) (k : ℕ) (r : Reading) → loadRefusal w (m .slots) (m .clock .date) k r ≡ Accepted → w .good (r .plan) ≡ true → State w L m →
-      State w L (record { clock = m .clock; account = m .account; slots = loaded (m .slots) k (r .plan); volumes = m .volumes; valve = m .valve; journal = m .journal })
+  load-state : (m : State) (k : ℕ) (r : Reading) → loadRefusal w (m .slots) (m .clock .date) k r ≡ Accepted → w .good (r .plan) ≡ true → Parts w L m →
+      Parts w L (record { clock = m .clock; account = m .account; slots = loaded (m .slots) k (r .plan); volumes = m .volumes; valve = m .valve; journal = m .journal })
   unfolding loadRefusal loaded
   load-state m k r h y i =
       let d = m .clock .date in
@@ -179,13 +120,13 @@ module _ (w : World) (L : Laws w) where
       next-first (r .answer) c11 (need-rest (eqb k 1 || eqb k 2) 10 (next (r .answer) c11) h)
 
   -- any call that its own tests let pass
-  effect-state : (m : Meter) (c : Call) → ownRefusal w m c ≡ Accepted → State w L (turn w m (stampOf c)) → State w L (effectOf w (turn w m (stampOf c)) c)
+  effect-state : (m : State) (c : Call) → ownRefusal w m c ≡ Accepted → Parts w L (turn w m (stampOf c)) → Parts w L (effectOf w (turn w m (stampOf c)) c)
   unfolding ownRefusal effectOf pulseRefusal keyAllowed
   effect-state m (pulses p) h i =
       let n = p .count .0 in
       let r = need-rest (leb n 65535) 13 (need (leb (m .volumes .total .0 + n) highestTotal) 14 Accepted) h in
       let t : m .volumes .total .0 + n ≤ highestTotal = leb-true (m .volumes .total .0 + n) highestTotal (need-first (leb (m .volumes .total .0 + n) highestTotal) 14 Accepted r) in
-      pulsed-state (turn w m (p .stamp)) n (rw (turn-volumes w L m (p .stamp)) t) i
+      pulsed-state w L (turn w m (p .stamp)) n (rw (turn-volumes w L m (p .stamp)) t) i
   effect-state m (recharge r) h i = record {
     volumes = i .volumes;
     account = recharged-good (turn w m (r .stamp) .account) (turn w m (r .stamp) .volumes .total .0) (r .amount .0) (r .serial) (rw (turn-account w L m (r .stamp)) h) (i .account);
@@ -229,7 +170,7 @@ module _ (w : World) (L : Laws w) where
   effect-state m (tick t) h i = i
 
   -- an effect keeps the clock
-  pub effect-clock : (m : Meter) (c : Call) → effectOf w m c .clock ≡ m .clock
+  pub effect-clock : (m : State) (c : Call) → effectOf w m c .clock ≡ m .clock
   unfolding effectOf pulsed
   effect-clock m (pulses p) = refl
   effect-clock m (recharge r) = refl
@@ -240,18 +181,18 @@ module _ (w : World) (L : Laws w) where
   effect-clock m (tick t) = refl
 
   -- the clock takes the stamp
-  pub after-clock : (m : Meter) (c : Call) → after w m c .clock ≡ stampOf c
+  pub after-clock : (m : State) (c : Call) → after w m c .clock ≡ stampOf c
   unfolding after
   after-clock m c = effect-clock (turn w m (stampOf c)) c ∙ turn-clock w L m (stampOf c)
 
   -- what an accepted call has passed
-  pub record Passed (m : Meter) (c : Call) : Type 0 where
+  pub record Passed (m : State) (c : Call) : Type 0 where
     pub bounds : bounded w m ≡ true
     pub stamp : stampGood w (stampOf c) ≡ true
     pub onward : notBefore (m .clock) (stampOf c) ≡ true
     pub own : ownRefusal w m c ≡ Accepted
 
-  pub passed : (m : Meter) (c : Call) → refusalOf w m c ≡ Accepted → Passed m c
+  pub passed : (m : State) (c : Call) → refusalOf w m c ≡ Accepted → Passed m c
   unfolding refusalOf
   passed m c h =
       let p = stamp-passed w m (stampOf c) (next-first (stampRefusal w m (stampOf c)) (ownRefusal w m c) h) in
@@ -263,7 +204,7 @@ module _ (w : World) (L : Laws w) where
       }
 
   -- and the other way
-  pub pass : (m : Meter) (c : Call) → Passed m c → refusalOf w m c ≡ Accepted
+  pub pass : (m : State) (c : Call) → Passed m c → refusalOf w m c ≡ Accepted
   unfolding refusalOf stampRefusal
   pass m c p = rw (p .bounds, p .stamp, p .onward) (p .own)
 
@@ -271,12 +212,12 @@ module _ (w : World) (L : Laws w) where
   unfolding stampGood
   stamp-date s h = and-left (w .date (s .date)) (leb (s .second) 86399) h
 
-  after-state : (m : Meter) (c : Call) → ownRefusal w m c ≡ Accepted → State w L (turn w m (stampOf c)) → State w L (after w m c)
+  after-state : (m : State) (c : Call) → ownRefusal w m c ≡ Accepted → Parts w L (turn w m (stampOf c)) → Parts w L (after w m c)
   unfolding after
   after-state m c h i = effect-state m c h i
 
   -- an accepted call leaves a meter within its bounds
-  pub kept : (m : Meter) (c : Call) → refusalOf w m c ≡ Accepted → bounded w (after w m c) ≡ true
+  pub kept : (m : State) (c : Call) → refusalOf w m c ≡ Accepted → bounded w (after w m c) ≡ true
   kept m c h =
       let p = passed m c h in
       let j = not-before-date (m .clock) (stampOf c) (p .onward) in

@@ -9,47 +9,43 @@ use Rattle.calendar.specs.declared.Dated.the-variants.{On, Refused as Off}
 use Rattle.account.specs.declared.Codes.{Codes}
 use Rattle.account.specs.Codes.{noCodes, noteAll}
 use Rattle.slots.specs.World.{World, real}
+use Rattle.state.specs.declared.State.{State}
+use Rattle.state.specs.Turn.{turn, turnCodes}
 use Rattle.meter.specs.declared.Meter.{Meter}
 use Rattle.meter.specs.declared.Outcome.{Outcome}
-use Rattle.meter.specs.Turn.{turn, turnCodes}
 use Rattle.meter.specs.Call.{Call, stampOf}
 use Rattle.meter.specs.Refusals.{refusalOf}
 use Rattle.meter.specs.Effects.{effectOf, codesOf}
 
 -- the meter after an accepted call, and its codes: those of turning the day come first
-unfoldable pub after : World → Meter → Call → Meter
+unfoldable pub after : World → State → Call → State
 after w m c = effectOf w (turn w m (stampOf c)) c
 
-unfoldable pub codesAfter : World → Meter → Call → List ℕ
+unfoldable pub codesAfter : World → State → Call → List ℕ
 codesAfter w m c = turnCodes w m (stampOf c) ++ codesOf w (turn w m (stampOf c)) c
 
 -- the meter that a call leaves, refused or not, and the codes that it gives
-abbrev pub meterBy : Answer → Meter → Meter → Meter
-meterBy Accepted was is = is
-meterBy (Refused n) was is = was
+abbrev pub stateBy : Answer → State → State → State
+stateBy Accepted was is = is
+stateBy (Refused n) was is = was
 
 abbrev pub codesBy : Answer → List ℕ → List ℕ
 codesBy Accepted cs = cs
 codesBy (Refused n) cs = []
 
-unfoldable pub left : World → Meter → Call → Meter
-left w m c = meterBy (refusalOf w m c) m (after w m c)
+unfoldable pub left : World → State → Call → State
+left w m c = stateBy (refusalOf w m c) m (after w m c)
 
-unfoldable pub given : World → Meter → Call → List ℕ
+unfoldable pub given : World → State → Call → List ℕ
 given w m c = codesBy (refusalOf w m c) (codesAfter w m c)
 
 -- refused with a number, the meter as it was
 abbrev pub refusedOf : Meter → ℕ → Outcome
 refusedOf m n = record { meter = m; done = record { answer = Refused n; codes = noCodes } }
 
--- accepted with a new meter and its codes
-abbrev pub acceptedOf : Meter → Codes → Outcome
-acceptedOf m k = record { meter = m; done = record { answer = Accepted; codes = k } }
-
--- the date of an admitted stamp, or the refusal
-abbrev pub datedBy : Answer → ℕ → Dated
-datedBy Accepted d = On d
-datedBy (Refused n) d = Off n
+-- accepted with a new state and its codes
+abbrev pub acceptedOf : State → Codes → Outcome
+acceptedOf s k = record { meter = record { state = s }; done = record { answer = Accepted; codes = k } }
 
 -- refused by a stamp or by a test of the call's own; the accepting cases do not occur
 abbrev pub declinedOf : Meter → Dated → Outcome
@@ -63,6 +59,6 @@ deniedOf m (Refused n) = refusedOf m n
 -- the answer to a call, as the code hands it back
 unfoldable pub outcome : Meter → Call → Outcome
 outcome m c = record {
-  meter = left real m c;
-  done = record { answer = refusalOf real m c; codes = noteAll noCodes (given real m c) };
+  meter = record { state = left real (m .state) c };
+  done = record { answer = refusalOf real (m .state) c; codes = noteAll noCodes (given real (m .state) c) };
 }

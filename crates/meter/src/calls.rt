@@ -12,9 +12,7 @@ use account::Codes;
 use answer::Answer;
 use calendar::Dated;
 ghost use mathlib.Core.Path.{_≡_};
-ghost use Rattle.slots.specs.World.{real};
 ghost use Rattle.meter.specs.Call.{pulses as pulsesCall, recharge as rechargeCall, load as loadCall, alarms as alarmsCall, command as commandCall, key as keyCall, tick as tickCall};
-ghost use Rattle.meter.specs.Refusals.{keyAllowed};
 ghost use Rattle.meter.specs.Machine.{outcome};
 
 impl Meter {
@@ -22,86 +20,87 @@ impl Meter {
     pub fn pulses(self, p: Pulses) -> Outcome
         ensures { λ r. ⌜ r ≡ outcome self (pulsesCall p) ⌝ }
     {
-        let mut f = self.slots.force(self.clock.date);
-        let d = self.admit_on(f.slot != 0, p.stamp);
+        let mut f = self.state.slots.force(self.state.clock.date);
+        let d = self.state.admit_on(f.slot != 0, p.stamp);
         let Dated::On(_) = d else {
             return self.declined(d);
         };
-        let a = self.volumes.vet(p.count);
+        let a = self.state.volumes.vet(p.count);
         let Answer::Accepted = a else {
             return self.denied(a);
         };
-        let mut m = self;
+        let mut s = self.state;
         let mut codes = Codes::none();
-        if self.clock.date < p.stamp.date {
-            let is = self.slots.force(p.stamp.date);
-            let t = self.turned(f, is, p.stamp);
-            m = t.meter;
+        if self.state.clock.date < p.stamp.date {
+            let is = self.state.slots.force(p.stamp.date);
+            let t = self.state.turned(f, is, p.stamp);
+            s = t.state;
             codes = t.codes;
             f = is;
         }
-        m.pulsed(f, p.stamp, p.count, codes)
+        let t = s.pulsed(f, p.stamp, p.count, codes);
+        Meter::accepted(t.state, t.codes)
     }
 
     // A recharge bought at a counter.
     pub fn recharge(self, p: Recharge) -> Outcome
         ensures { λ r. ⌜ r ≡ outcome self (rechargeCall p) ⌝ }
     {
-        let d = self.admit(p.stamp);
+        let d = self.state.admit(p.stamp);
         let Dated::On(_) = d else {
             return self.declined(d);
         };
-        let a = self.account.vet(p.amount, p.serial);
+        let a = self.state.account.vet(p.amount, p.serial);
         let Answer::Accepted = a else {
             return self.denied(a);
         };
-        let t = self.turn(p.stamp);
-        let mut next = t.meter;
+        let t = self.state.turn(p.stamp);
+        let mut next = t.state;
         next.account = next.account.recharged(p.amount, p.serial);
-        next.accepted(t.codes.note(0x21))
+        Meter::accepted(next, t.codes.note(0x21))
     }
 
     // A plan loaded into a slot; the record is a lent slice of any length.
     pub fn load(self, p: Load, bytes: &[u8]) -> Outcome
         ensures { λ r. ⌜ r ≡ outcome self (loadCall p (now (bytes .entry))) ⌝ }
     {
-        let d = self.admit(p.stamp);
+        let d = self.state.admit(p.stamp);
         let Dated::On(date) = d else {
             return self.declined(d);
         };
         let r = record::read(bytes);
-        let a = self.slots.vet(date, p.slot, r);
+        let a = self.state.slots.vet(date, p.slot, r);
         let Answer::Accepted = a else {
             return self.denied(a);
         };
-        let t = self.turn(p.stamp);
-        let mut next = t.meter;
+        let t = self.state.turn(p.stamp);
+        let mut next = t.state;
         next.slots = next.slots.loaded(p.slot, r.plan);
-        next.accepted(t.codes.note(0x27))
+        Meter::accepted(next, t.codes.note(0x27))
     }
 
     // The two alarms set, in whole yuan.
     pub fn alarms(self, p: Alarms) -> Outcome
         ensures { λ r. ⌜ r ≡ outcome self (alarmsCall p) ⌝ }
     {
-        let d = self.admit(p.stamp);
+        let d = self.state.admit(p.stamp);
         let Dated::On(_) = d else {
             return self.declined(d);
         };
         if !account::alarms_good(p.one, p.two) {
             return self.refused(23);
         }
-        let t = self.turn(p.stamp);
-        let mut next = t.meter;
+        let t = self.state.turn(p.stamp);
+        let mut next = t.state;
         next.account = next.account.alarmed(p.one, p.two);
-        next.accepted(t.codes.note(0x27))
+        Meter::accepted(next, t.codes.note(0x27))
     }
 
     // A command of the master station: 0 forbids, 1 allows.
     pub fn command(self, p: Command) -> Outcome
         ensures { λ r. ⌜ r ≡ outcome self (commandCall p) ⌝ }
     {
-        let d = self.admit(p.stamp);
+        let d = self.state.admit(p.stamp);
         let Dated::On(_) = d else {
             return self.declined(d);
         };
@@ -109,47 +108,40 @@ impl Meter {
             return self.refused(21);
         }
         let allow = p.code == 1;
-        let t = self.turn(p.stamp);
-        let mut next = t.meter;
+        let t = self.state.turn(p.stamp);
+        let mut next = t.state;
         let codes = next.valve.command_codes(allow, t.codes);
         next.valve = next.valve.commanded(allow);
-        next.accepted(codes)
-    }
-
-    // Whether the key may open the valve on a date: refusal 22 where it may not.
-    fn key_allowed(self, date: u32) -> bool
-        ensures { λ r. ⌜ r ≡ keyAllowed real self date ⌝ }
-    {
-        self.valve.allow && (self.account.balance.above_zero() && self.slots.some_force(date))
+        Meter::accepted(next, codes)
     }
 
     // The household's key.
     pub fn key(self, p: Key) -> Outcome
         ensures { λ r. ⌜ r ≡ outcome self (keyCall p) ⌝ }
     {
-        let d = self.admit(p.stamp);
+        let d = self.state.admit(p.stamp);
         let Dated::On(date) = d else {
             return self.declined(d);
         };
-        if !self.key_allowed(date) {
+        if !self.state.key_allowed(date) {
             return self.refused(22);
         }
-        let t = self.turn(p.stamp);
-        let mut next = t.meter;
+        let t = self.state.turn(p.stamp);
+        let mut next = t.state;
         let codes = next.valve.key_codes(t.codes);
         next.valve = next.valve.set(true);
-        next.accepted(codes)
+        Meter::accepted(next, codes)
     }
 
     // The clock only.
     pub fn tick(self, p: Tick) -> Outcome
         ensures { λ r. ⌜ r ≡ outcome self (tickCall p) ⌝ }
     {
-        let d = self.admit(p.stamp);
+        let d = self.state.admit(p.stamp);
         let Dated::On(_) = d else {
             return self.declined(d);
         };
-        let t = self.turn(p.stamp);
-        t.meter.accepted(t.codes)
+        let t = self.state.turn(p.stamp);
+        Meter::accepted(t.state, t.codes)
     }
 }

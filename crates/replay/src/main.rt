@@ -169,7 +169,7 @@ fn close(desk: Desk, out: &mut [u8]) -> usize
 {
     let b = desk.book;
     let m = desk.meter;
-    let balance = m.account.balance;
+    let balance = m.state.account.balance;
     let sum = b.sum();
     report::closing_line(b.recharged.0, balance, sum.0, out)
 }

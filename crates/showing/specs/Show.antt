@@ -48,8 +48,8 @@ dayShown date t =
 
 unfoldable pub showLines : Meter → List ℕ
 showLines m =
-    balanceShown (m .account .balance .0)
-    ++ (usageShown (m .slots .usage .0)
+    balanceShown (m .state .account .balance .0)
+    ++ (usageShown (m .state .slots .usage .0)
     ++ (stepShown (stepAnswer m)
-    ++ (valveShown (m .valve)
-    ++ dayShown (m .clock .date) (m .journal .day))))
+    ++ (valveShown (m .state .valve)
+    ++ dayShown (m .state .clock .date) (m .state .journal .day))))

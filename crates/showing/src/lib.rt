@@ -90,9 +90,9 @@ pub fn show(m: Meter, out: &mut [u8]) -> usize
     ensures { λ r. ⌜ (r ≡ length (showLines m)) × (r ≤ 320) × (now (out .exit) ≡ startingWith (showLines m) (now (out .entry))) ⌝ }
 {
     let step = query::step(m);
-    let b = balance_at(m.account.balance, 0, out);
-    let u = usage_at(m.slots.usage, b, out);
+    let b = balance_at(m.state.account.balance, 0, out);
+    let u = usage_at(m.state.slots.usage, b, out);
     let s = step_at(step, u, out);
-    let v = valve_at(m.valve, s, out);
-    day_at(m.clock.date, m.journal.day, v, out)
+    let v = valve_at(m.state.valve, s, out);
+    day_at(m.state.clock.date, m.state.journal.day, v, out)
 }

@@ -29,7 +29,7 @@ pub fn number(a: Answer) -> u32 {
 fn answers(m: Meter, o: Outcome, n: u32) -> bool {
     let d = o.done;
     let a = d.answer;
-    (number(a) == n) & ((n == PASS) | same::meters(m, o.meter))
+    (number(a) == n) & ((n == PASS) | same::states(m.state, o.meter.state))
 }
 
 pub fn pulses(k: u32, date: u32, volume: u32, n: u32) -> bool {

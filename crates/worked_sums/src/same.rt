@@ -7,11 +7,11 @@ use journal::Journal;
 use journal::Months;
 use journal::Record;
 use journal::Tally;
-use meter::Meter;
-use meter::Volumes;
 use plan::Plan;
 use slots::Slot;
 use slots::Slots;
+use state::State;
+use state::Volumes;
 
 fn clocks(x: Stamp, y: Stamp) -> bool {
     (x.date == y.date) & (x.second == y.second)
@@ -106,7 +106,7 @@ fn journals(x: Journal, y: Journal) -> bool {
         & months(x.months, y.months)
 }
 
-pub fn meters(x: Meter, y: Meter) -> bool {
+pub fn states(x: State, y: State) -> bool {
     clocks(x.clock, y.clock)
         & accounts(x.account, y.account)
         & slots(x.slots, y.slots)

@@ -8,7 +8,7 @@ use meter::Meter;
 use meter::Pulses;
 use meter::Recharge;
 use meter::Tick;
-use meter::Volumes;
+use state::Volumes;
 use units::Hundredths;
 use units::Millionths;
 use units::TenThousandths;
@@ -107,17 +107,19 @@ fn forbidden() -> Meter {
 }
 
 fn with_total(n: u32) -> Meter {
-    let mut m = ready();
+    let m = ready();
+    let mut state = m.state;
     let total = Hundredths(n);
     let unpriced = Hundredths(0);
     let v = Volumes { total, unpriced };
-    m.volumes = v;
-    m
+    state.volumes = v;
+    Meter { state }
 }
 
 // Ready, with one pulse in the total and a balance that the host put there.
 pub fn with_balance(n: i64) -> Meter {
-    let mut m = with_total(1);
+    let m = with_total(1);
+    let mut state = m.state;
     let balance = Millionths(n);
     let a = Account {
         balance,
@@ -125,8 +127,8 @@ pub fn with_balance(n: i64) -> Meter {
         one: 20,
         two: 5,
     };
-    m.account = a;
-    m
+    state.account = a;
+    Meter { state }
 }
 
 fn pulsed(m: Meter, date: u32, second: u32, n: u32) -> Meter {

@@ -5,9 +5,11 @@ use Rattle.answer.specs.declared.Answer.the-variants.{Accepted}
 use Rattle.slots.specs.World.{real}
 use Rattle.meter.specs.Machine.{declinedOf, deniedOf}
 use Rattle.meter.specs.Call.{alarms as call}
-use Rattle.meter.specs.Refusals.{stampRefusal, ownRefusal}
+use Rattle.state.specs.Refusals.{stampRefusal}
+use Rattle.meter.specs.Refusals.{ownRefusal}
 use Rattle.meter.specs.Effects.{effectOf, codesOf}
-use Rattle.meter.proofs.Outcomes.{not-admitted, admitted, own-refused, accepts, admitted-bounds}
+use Rattle.state.proofs.Admitted.{admitted, admitted-bounds}
+use Rattle.meter.proofs.Outcomes.{held, not-admitted, own-refused, accepts}
 use borrow.Author.Tests.{not-true, not-false}
 use borrow.Author.Needs.{needs}
 use Rattle.meter.proofs.Meter.alarms.Statement.{statement}
@@ -26,7 +28,7 @@ declined-requires : tie.Need-declined-requires
 declined-requires c κs = search needs
 
 returns : tie.Need-returns
-returns c = c .declined .ensures ∙ ap (declinedOf (c .before .before .before .before .args .self)) (c .before .enum-told2 .given .1) ∙ sym (not-admitted (c .before .before .before .before .args .self) (call (c .before .before .before .before .args .p)) _ (sym (c .before .before .before .admit .ensures) ∙ c .before .enum-told2 .given .1))
+returns c = c .declined .ensures ∙ ap (declinedOf (held (c .before .before .before .before .args .self .state))) (c .before .enum-told2 .given .1) ∙ sym (not-admitted (c .before .before .before .before .args .self .state) (call (c .before .before .before .before .args .p)) _ (sym (c .before .before .before .admit .ensures) ∙ c .before .enum-told2 .given .1))
 
 alarms-good-requires : tie.Need-alarms-good-requires
 alarms-good-requires c κs = search needs
@@ -37,13 +39,13 @@ refused-requires c κs = search needs
 returns-2 : tie.Need-returns-2
 unfolding ownRefusal
 returns-2 c =
-    let a : stampRefusal real (c .before .before .before .before .before .before .args .self) (c .before .before .before .before .before .before .args .p .stamp) ≡ Accepted = admitted (c .before .before .before .before .before .before .args .self) (c .before .before .before .before .before .before .args .p .stamp) _ (sym (c .before .before .before .before .before .admit .ensures) ∙ c .before .before .before .enum-told .given .1) .0 in
-    c .refused .ensures ∙ sym (own-refused (c .before .before .before .before .before .before .args .self) (call (c .before .before .before .before .before .before .args .p)) 23 a (rw (sym (c .before .before .alarms-good .ensures) ∙ not-true _ (c .before .if1 .taken))))
+    let a : stampRefusal real (c .before .before .before .before .before .before .args .self .state) (c .before .before .before .before .before .before .args .p .stamp) ≡ Accepted = admitted (c .before .before .before .before .before .before .args .self .state) (c .before .before .before .before .before .before .args .p .stamp) _ (sym (c .before .before .before .before .before .admit .ensures) ∙ c .before .before .before .enum-told .given .1) .0 in
+    c .refused .ensures ∙ sym (own-refused (c .before .before .before .before .before .before .args .self .state) (call (c .before .before .before .before .before .before .args .p)) 23 a (rw (sym (c .before .before .alarms-good .ensures) ∙ not-true _ (c .before .if1 .taken))))
 
 turn-requires : tie.Need-turn-requires
 turn-requires c κs =
-    let a : stampRefusal real (c .before .before .before .before .before .args .self) (c .before .before .before .before .before .args .p .stamp) ≡ Accepted = admitted (c .before .before .before .before .before .args .self) (c .before .before .before .before .before .args .p .stamp) _ (sym (c .before .before .before .before .admit .ensures) ∙ c .before .before .enum-told .given .1) .0 in
-    let b = admitted-bounds (c .before .before .before .before .before .args .self) (c .before .before .before .before .before .args .p .stamp) a in
+    let a : stampRefusal real (c .before .before .before .before .before .args .self .state) (c .before .before .before .before .before .args .p .stamp) ≡ Accepted = admitted (c .before .before .before .before .before .args .self .state) (c .before .before .before .before .before .args .p .stamp) _ (sym (c .before .before .before .before .admit .ensures) ∙ c .before .before .enum-told .given .1) .0 in
+    let b = admitted-bounds (c .before .before .before .before .before .args .self .state) (c .before .before .before .before .before .args .p .stamp) a in
     (b .0, b .1)
 
 alarmed-requires : tie.Need-alarmed-requires
@@ -58,9 +60,9 @@ accepted-requires c κs = search needs
 returns-3 : tie.Need-returns-3
 unfolding ownRefusal effectOf codesOf noteAll
 returns-3 c =
-    let a : stampRefusal real (c .before .before .before .before .before .before .before .before .before .before .args .self) (c .before .before .before .before .before .before .before .before .before .before .args .p .stamp) ≡ Accepted = admitted (c .before .before .before .before .before .before .before .before .before .before .args .self) (c .before .before .before .before .before .before .before .before .before .before .args .p .stamp) _ (sym (c .before .before .before .before .before .before .before .before .before .admit .ensures) ∙ c .before .before .before .before .before .before .before .enum-told .given .1) .0 in
+    let a : stampRefusal real (c .before .before .before .before .before .before .before .before .before .before .args .self .state) (c .before .before .before .before .before .before .before .before .before .before .args .p .stamp) ≡ Accepted = admitted (c .before .before .before .before .before .before .before .before .before .before .args .self .state) (c .before .before .before .before .before .before .before .before .before .before .args .p .stamp) _ (sym (c .before .before .before .before .before .before .before .before .before .admit .ensures) ∙ c .before .before .before .before .before .before .before .enum-told .given .1) .0 in
     c .accepted .ensures
-    ∙ accepts (c .before .before .before .before .before .before .before .before .before .before .args .self) (call (c .before .before .before .before .before .before .before .before .before .before .args .p)) a (rw (sym (c .before .before .before .before .before .before .alarms-good .ensures) ∙ not-false _ (c .before .before .before .before .before .if1 .left)))
+    ∙ accepts (c .before .before .before .before .before .before .before .before .before .before .args .self .state) (call (c .before .before .before .before .before .before .before .before .before .before .args .p)) a (rw (sym (c .before .before .before .before .before .before .alarms-good .ensures) ∙ not-false _ (c .before .before .before .before .before .if1 .left)))
     (rw (c .before .before .alarmed .ensures, c .before .before .before .before .turn .ensures .0))
     (rw (c .before .note .ensures, c .before .before .before .before .turn .ensures .1))
 

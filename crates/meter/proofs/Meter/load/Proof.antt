@@ -5,9 +5,11 @@ use Rattle.answer.specs.declared.Answer.the-variants.{Accepted}
 use Rattle.slots.specs.World.{real}
 use Rattle.meter.specs.Machine.{declinedOf, deniedOf}
 use Rattle.meter.specs.Call.{load as call}
-use Rattle.meter.specs.Refusals.{stampRefusal, ownRefusal}
+use Rattle.state.specs.Refusals.{stampRefusal}
+use Rattle.meter.specs.Refusals.{ownRefusal}
 use Rattle.meter.specs.Effects.{effectOf, codesOf}
-use Rattle.meter.proofs.Outcomes.{not-admitted, admitted, own-refused, accepts, admitted-bounds}
+use Rattle.state.proofs.Admitted.{admitted, admitted-bounds}
+use Rattle.meter.proofs.Outcomes.{held, not-admitted, own-refused, accepts}
 use borrow.Author.Needs.{needs}
 use Rattle.meter.proofs.Meter.load.Statement.{statement}
 use Rattle.meter.proofs.Meter.load.Tie as tie
@@ -25,7 +27,7 @@ declined-requires : tie.Need-declined-requires
 declined-requires c κs = search needs
 
 returns : tie.Need-returns
-returns c = c .declined .ensures ∙ ap (declinedOf (c .before .before .before .before .before .args .self)) (c .before .enum-told .given .1) ∙ sym (not-admitted (c .before .before .before .before .before .args .self) (call (c .before .before .before .before .before .args .p) (c .before .before .before .before .before .args .bytes .now)) _ (sym (c .before .before .before .admit .ensures) ∙ c .before .enum-told .given .1))
+returns c = c .declined .ensures ∙ ap (declinedOf (held (c .before .before .before .before .before .args .self .state))) (c .before .enum-told .given .1) ∙ sym (not-admitted (c .before .before .before .before .before .args .self .state) (call (c .before .before .before .before .before .args .p) (c .before .before .before .before .before .args .bytes .now)) _ (sym (c .before .before .before .admit .ensures) ∙ c .before .enum-told .given .1))
 
 read-requires : tie.Need-read-requires
 read-requires c κs = search needs
@@ -45,14 +47,14 @@ denied-requires c κs = search needs
 returns-2 : tie.Need-returns-2
 unfolding ownRefusal
 returns-2 c =
-    let a : stampRefusal real (c .before .before .before .before .before .before .before .before .before .before .args .self) (c .before .before .before .before .before .before .before .before .before .before .args .p .stamp) ≡ Accepted = admitted (c .before .before .before .before .before .before .before .before .before .before .args .self) (c .before .before .before .before .before .before .before .before .before .before .args .p .stamp) _ (sym (c .before .before .before .before .before .before .before .before .admit .ensures) ∙ c .before .before .before .before .before .before .d .given .1) .0 in
-    let e = admitted (c .before .before .before .before .before .before .before .before .before .before .args .self) (c .before .before .before .before .before .before .before .before .before .before .args .p .stamp) _ (sym (c .before .before .before .before .before .before .before .before .admit .ensures) ∙ c .before .before .before .before .before .before .d .given .1) .1 in
-    c .denied .ensures ∙ ap (deniedOf (c .before .before .before .before .before .before .before .before .before .before .args .self)) (c .before .enum-told3 .given .1) ∙ sym (own-refused (c .before .before .before .before .before .before .before .before .before .before .args .self) (call (c .before .before .before .before .before .before .before .before .before .before .args .p) (c .before .before .before .before .before .before .before .before .before .before .args .bytes .now)) _ a (rw (← e, ← c .before .before .before .before .read .ensures) (sym (c .before .before .before .vet .ensures) ∙ c .before .enum-told3 .given .1)))
+    let a : stampRefusal real (c .before .before .before .before .before .before .before .before .before .before .args .self .state) (c .before .before .before .before .before .before .before .before .before .before .args .p .stamp) ≡ Accepted = admitted (c .before .before .before .before .before .before .before .before .before .before .args .self .state) (c .before .before .before .before .before .before .before .before .before .before .args .p .stamp) _ (sym (c .before .before .before .before .before .before .before .before .admit .ensures) ∙ c .before .before .before .before .before .before .d .given .1) .0 in
+    let e = admitted (c .before .before .before .before .before .before .before .before .before .before .args .self .state) (c .before .before .before .before .before .before .before .before .before .before .args .p .stamp) _ (sym (c .before .before .before .before .before .before .before .before .admit .ensures) ∙ c .before .before .before .before .before .before .d .given .1) .1 in
+    c .denied .ensures ∙ ap (deniedOf (held (c .before .before .before .before .before .before .before .before .before .before .args .self .state))) (c .before .enum-told3 .given .1) ∙ sym (own-refused (c .before .before .before .before .before .before .before .before .before .before .args .self .state) (call (c .before .before .before .before .before .before .before .before .before .before .args .p) (c .before .before .before .before .before .before .before .before .before .before .args .bytes .now)) _ a (rw (← e, ← c .before .before .before .before .read .ensures) (sym (c .before .before .before .vet .ensures) ∙ c .before .enum-told3 .given .1)))
 
 turn-requires : tie.Need-turn-requires
 turn-requires c κs =
-    let a : stampRefusal real (c .before .before .before .before .before .before .before .before .before .args .self) (c .before .before .before .before .before .before .before .before .before .args .p .stamp) ≡ Accepted = admitted (c .before .before .before .before .before .before .before .before .before .args .self) (c .before .before .before .before .before .before .before .before .before .args .p .stamp) _ (sym (c .before .before .before .before .before .before .before .admit .ensures) ∙ c .before .before .before .before .before .d .given .1) .0 in
-    let b = admitted-bounds (c .before .before .before .before .before .before .before .before .before .args .self) (c .before .before .before .before .before .before .before .before .before .args .p .stamp) a in
+    let a : stampRefusal real (c .before .before .before .before .before .before .before .before .before .args .self .state) (c .before .before .before .before .before .before .before .before .before .args .p .stamp) ≡ Accepted = admitted (c .before .before .before .before .before .before .before .before .before .args .self .state) (c .before .before .before .before .before .before .before .before .before .args .p .stamp) _ (sym (c .before .before .before .before .before .before .before .admit .ensures) ∙ c .before .before .before .before .before .d .given .1) .0 in
+    let b = admitted-bounds (c .before .before .before .before .before .before .before .before .before .args .self .state) (c .before .before .before .before .before .before .before .before .before .args .p .stamp) a in
     (b .0, b .1)
 
 loaded-requires : tie.Need-loaded-requires
@@ -67,10 +69,10 @@ accepted-requires c κs = search needs
 returns-3 : tie.Need-returns-3
 unfolding ownRefusal effectOf codesOf noteAll
 returns-3 c =
-    let a : stampRefusal real (c .before .before .before .before .before .before .before .before .before .before .before .before .before .before .args .self) (c .before .before .before .before .before .before .before .before .before .before .before .before .before .before .args .p .stamp) ≡ Accepted = admitted (c .before .before .before .before .before .before .before .before .before .before .before .before .before .before .args .self) (c .before .before .before .before .before .before .before .before .before .before .before .before .before .before .args .p .stamp) _ (sym (c .before .before .before .before .before .before .before .before .before .before .before .before .admit .ensures) ∙ c .before .before .before .before .before .before .before .before .before .before .d .given .1) .0 in
-    let e = admitted (c .before .before .before .before .before .before .before .before .before .before .before .before .before .before .args .self) (c .before .before .before .before .before .before .before .before .before .before .before .before .before .before .args .p .stamp) _ (sym (c .before .before .before .before .before .before .before .before .before .before .before .before .admit .ensures) ∙ c .before .before .before .before .before .before .before .before .before .before .d .given .1) .1 in
+    let a : stampRefusal real (c .before .before .before .before .before .before .before .before .before .before .before .before .before .before .args .self .state) (c .before .before .before .before .before .before .before .before .before .before .before .before .before .before .args .p .stamp) ≡ Accepted = admitted (c .before .before .before .before .before .before .before .before .before .before .before .before .before .before .args .self .state) (c .before .before .before .before .before .before .before .before .before .before .before .before .before .before .args .p .stamp) _ (sym (c .before .before .before .before .before .before .before .before .before .before .before .before .admit .ensures) ∙ c .before .before .before .before .before .before .before .before .before .before .d .given .1) .0 in
+    let e = admitted (c .before .before .before .before .before .before .before .before .before .before .before .before .before .before .args .self .state) (c .before .before .before .before .before .before .before .before .before .before .before .before .before .before .args .p .stamp) _ (sym (c .before .before .before .before .before .before .before .before .before .before .before .before .admit .ensures) ∙ c .before .before .before .before .before .before .before .before .before .before .d .given .1) .1 in
     c .accepted .ensures
-    ∙ accepts (c .before .before .before .before .before .before .before .before .before .before .before .before .before .before .args .self) (call (c .before .before .before .before .before .before .before .before .before .before .before .before .before .before .args .p) (c .before .before .before .before .before .before .before .before .before .before .before .before .before .before .args .bytes .now)) a (rw (← e, ← c .before .before .before .before .before .before .before .before .read .ensures) (sym (c .before .before .before .before .before .before .before .vet .ensures) ∙ c .before .before .before .before .before .enum-told2 .given .1))
+    ∙ accepts (c .before .before .before .before .before .before .before .before .before .before .before .before .before .before .args .self .state) (call (c .before .before .before .before .before .before .before .before .before .before .before .before .before .before .args .p) (c .before .before .before .before .before .before .before .before .before .before .before .before .before .before .args .bytes .now)) a (rw (← e, ← c .before .before .before .before .before .before .before .before .read .ensures) (sym (c .before .before .before .before .before .before .before .vet .ensures) ∙ c .before .before .before .before .before .enum-told2 .given .1))
     (rw (c .before .before .loaded .ensures, c .before .before .before .before .turn .ensures .0, c .before .before .before .before .before .before .before .before .read .ensures))
     (rw (c .before .note .ensures, c .before .before .before .before .turn .ensures .1))
 

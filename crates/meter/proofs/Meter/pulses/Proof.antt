@@ -6,17 +6,19 @@ use Rattle.answer.specs.declared.Answer.the-variants.{Accepted}
 use Rattle.slots.specs.World.{real}
 use Rattle.slots.specs.Slots.{forceOn}
 use Rattle.slots.proofs.InForce.{its-some}
-use Rattle.meter.specs.declared.Meter.{Meter}
-use Rattle.meter.specs.Meter.{withClock}
-use Rattle.meter.specs.Turn.{turn, turnCodes}
+use Rattle.state.specs.declared.State.{State}
+use Rattle.state.specs.State.{withClock}
+use Rattle.state.specs.Turn.{turn, turnCodes}
 use Rattle.meter.specs.Machine.{declinedOf, deniedOf}
 use Rattle.meter.specs.Call.{pulses as call}
-use Rattle.meter.specs.Refusals.{stampRefusal, ownRefusal}
+use Rattle.state.specs.Refusals.{stampRefusal}
+use Rattle.meter.specs.Refusals.{ownRefusal}
 use Rattle.meter.specs.Effects.{effectOf, codesOf}
-use Rattle.meter.proofs.Outcomes.{not-admitted, admitted, own-refused, accepts, admitted-bounds}
-use Rattle.meter.proofs.Turned.{total-low, turn-volumes}
+use Rattle.state.proofs.Admitted.{admitted, admitted-bounds}
+use Rattle.meter.proofs.Outcomes.{held, not-admitted, own-refused, accepts}
+use Rattle.state.proofs.Turned.{total-low, turn-volumes}
 use Rattle.slots.proofs.Real.{real-laws}
-use Rattle.meter.proofs.Rooms.{state, turned-good, pulses-fit, same-day, same-day-codes, clock-set, later-force, same-force}
+use Rattle.state.proofs.Rooms.{state, turned-good, pulses-fit, same-day, same-day-codes, clock-set, later-force, same-force}
 use borrow.Author.Needs.{needs}
 use Rattle.meter.proofs.Meter.pulses.Statement.{statement}
 use Rattle.meter.proofs.Meter.pulses.Tie as tie
@@ -25,7 +27,7 @@ force-requires : tie.Need-force-requires
 force-requires c κs = search needs
 
 admit-on-requires : tie.Need-admit-on-requires
-admit-on-requires c κs = its-some real (c .before .before .args .self .slots) (c .before .force .ensures)
+admit-on-requires c κs = its-some real (c .before .before .args .self .state .slots) (c .before .force .ensures)
 
 enum-told : tie.Need-enum-told
 enum-told c = search needs
@@ -39,14 +41,14 @@ declined-requires c κs = search needs
 returns : tie.Need-returns
 returns c =
     let s = c .before .before .before .before .before .before in
-    let m = s .args .self in
+    let m = s .args .self .state in
     let q = c .before .enum-told2 .given .1 in
-    c .declined .ensures ∙ ap (declinedOf m) q ∙ sym (not-admitted m (call (s .args .p)) _ (sym (c .before .before .before .admit-on .ensures) ∙ q))
+    c .declined .ensures ∙ ap (declinedOf (held m)) q ∙ sym (not-admitted m (call (s .args .p)) _ (sym (c .before .before .before .admit-on .ensures) ∙ q))
 
 vet-requires : tie.Need-vet-requires
 vet-requires c κs =
     let s = c .before .before .before .before .before in
-    let m = s .args .self in
+    let m = s .args .self .state in
     let a : stampRefusal real m (s .args .p .stamp) ≡ Accepted = admitted m (s .args .p .stamp) _ (sym (c .before .before .admit-on .ensures) ∙ c .enum-told .given .1) .0 in
     total-low real real-laws m (state m (admitted-bounds m (s .args .p .stamp) a .0))
 
@@ -63,11 +65,11 @@ returns-2 : tie.Need-returns-2
 unfolding ownRefusal
 returns-2 c =
     let s = c .before .before .before .before .before .before .before .before .before in
-    let m = s .args .self in
+    let m = s .args .self .state in
     let p = s .args .p in
     let a : stampRefusal real m (p .stamp) ≡ Accepted = admitted m (p .stamp) _ (sym (c .before .before .before .before .before .before .admit-on .ensures) ∙ c .before .before .before .before .enum-told .given .1) .0 in
     let q = c .before .enum-told4 .given .1 in
-    c .denied .ensures ∙ ap (deniedOf m) q ∙ sym (own-refused m (call p) _ a (sym (c .before .before .before .vet .ensures) ∙ q))
+    c .denied .ensures ∙ ap (deniedOf (held m)) q ∙ sym (own-refused m (call p) _ a (sym (c .before .before .before .vet .ensures) ∙ q))
 
 none-requires : tie.Need-none-requires
 none-requires c κs = search needs
@@ -77,61 +79,65 @@ force-requires-2 c κs = search needs
 
 turned-requires : tie.Need-turned-requires
 turned-requires c κs =
-    let s = c .before .before .before .before .before .before .before .before .before .before .before .before .before in
-    let m = s .args .self in
-    let a : stampRefusal real m (s .args .p .stamp) ≡ Accepted = admitted m (s .args .p .stamp) _ (sym (c .before .before .before .before .before .before .before .before .before .before .admit-on .ensures) ∙ c .before .before .before .before .before .before .before .before .enum-told .given .1) .0 in
+    let s = c .before .before .before .before .before .before .before .before .before .before .before .before .before .before in
+    let m = s .args .self .state in
+    let a : stampRefusal real m (s .args .p .stamp) ≡ Accepted = admitted m (s .args .p .stamp) _ (sym (c .before .before .before .before .before .before .before .before .before .before .before .admit-on .ensures) ∙ c .before .before .before .before .before .before .before .before .before .enum-told .given .1) .0 in
     let b = admitted-bounds m (s .args .p .stamp) a in
-    (b .0, (b .1, (c .before .if1 .taken, (c .before .before .before .before .before .before .before .before .before .before .before .before .force .ensures, c .force2 .ensures))))
+    (b .0, (b .1, (c .before .if1 .taken, (c .before .before .before .before .before .before .before .before .before .before .before .before .before .force .ensures, c .force2 .ensures))))
 
 -- the stamp is admitted
-stamped : (c : tie.Joined1) → stampRefusal real (c .before .before .before .before .before .before .before .before .before .before .before .before .args .self) (c .before .before .before .before .before .before .before .before .before .before .before .before .args .p .stamp) ≡ Accepted
+stamped : (c : tie.Joined1) → stampRefusal real (c .before .before .before .before .before .before .before .before .before .before .before .before .before .args .self .state) (c .before .before .before .before .before .before .before .before .before .before .before .before .before .args .p .stamp) ≡ Accepted
 stamped c =
-    let s = c .before .before .before .before .before .before .before .before .before .before .before .before in
-    admitted (s .args .self) (s .args .p .stamp) _ (sym (c .before .before .before .before .before .before .before .before .before .admit-on .ensures) ∙ c .before .before .before .before .before .before .before .enum-told .given .1) .0
+    let s = c .before .before .before .before .before .before .before .before .before .before .before .before .before in
+    admitted (s .args .self .state) (s .args .p .stamp) _ (sym (c .before .before .before .before .before .before .before .before .before .before .admit-on .ensures) ∙ c .before .before .before .before .before .before .before .before .enum-told .given .1) .0
 
--- whether the day turned or not, the meter is the turned one but for its clock, the codes are those of the turn, and the slot is that in
+-- whether the day turned or not, the state is the turned one but for its clock, the codes are those of the turn, and the slot is that in
 -- force on the stamp's date
 record Met (c : tie.Joined1) : Type 0 where
-  meter : withClock (c .if1 .m) (c .before .before .before .before .before .before .before .before .before .before .before .before .args .p .stamp) ≡ turn real (c .before .before .before .before .before .before .before .before .before .before .before .before .args .self) (c .before .before .before .before .before .before .before .before .before .before .before .before .args .p .stamp)
-  codes : c .if1 .codes ≡ noteAll noCodes (turnCodes real (c .before .before .before .before .before .before .before .before .before .before .before .before .args .self) (c .before .before .before .before .before .before .before .before .before .before .before .before .args .p .stamp))
-  force : c .if1 .f ≡ forceOn real (turn real (c .before .before .before .before .before .before .before .before .before .before .before .before .args .self) (c .before .before .before .before .before .before .before .before .before .before .before .before .args .p .stamp) .slots) (c .before .before .before .before .before .before .before .before .before .before .before .before .args .p .stamp .date)
+  state : withClock (c .if1 .s) (c .before .before .before .before .before .before .before .before .before .before .before .before .before .args .p .stamp) ≡ turn real (c .before .before .before .before .before .before .before .before .before .before .before .before .before .args .self .state) (c .before .before .before .before .before .before .before .before .before .before .before .before .before .args .p .stamp)
+  codes : c .if1 .codes ≡ noteAll noCodes (turnCodes real (c .before .before .before .before .before .before .before .before .before .before .before .before .before .args .self .state) (c .before .before .before .before .before .before .before .before .before .before .before .before .before .args .p .stamp))
+  force : c .if1 .f ≡ forceOn real (turn real (c .before .before .before .before .before .before .before .before .before .before .before .before .before .args .self .state) (c .before .before .before .before .before .before .before .before .before .before .before .before .before .args .p .stamp) .slots) (c .before .before .before .before .before .before .before .before .before .before .before .before .before .args .p .stamp .date)
 
 met : (c : tie.Joined1) → Met c
 unfolding noteAll
 met c =
-    let m = c .before .before .before .before .before .before .before .before .before .before .before .before .args .self in
-    let s = c .before .before .before .before .before .before .before .before .before .before .before .before .args .p .stamp in
+    let m = c .before .before .before .before .before .before .before .before .before .before .before .before .before .args .self .state in
+    let s = c .before .before .before .before .before .before .before .before .before .before .before .before .before .args .p .stamp in
     ⊎-elim
     (λ w. record {
-      meter = ap (λ (x : Meter). withClock x s) (w .6 ∙ w .2 .ensures .0) ∙ clock-set m s;
+      state = ap (λ (x : State). withClock x s) (w .6 ∙ w .2 .ensures .0) ∙ clock-set m s;
       codes = w .7 ∙ w .2 .ensures .1;
       force = w .5 ∙ w .1 .ensures ∙ later-force m s;
     })
     (λ w. record {
-      meter = ap (λ (x : Meter). withClock x s) (w .2) ∙ sym (same-day m s (w .0 .left));
+      state = ap (λ (x : State). withClock x s) (w .2) ∙ sym (same-day m s (w .0 .left));
       codes = w .3 ∙ c .before .before .before .none .ensures ∙ sym (ap (noteAll noCodes) (same-day-codes m s (w .0 .left)));
-      force = w .1 ∙ c .before .before .before .before .before .before .before .before .before .before .before .force .ensures ∙ same-force m s (stamped c) (w .0 .left);
+      force = w .1 ∙ c .before .before .before .before .before .before .before .before .before .before .before .before .force .ensures ∙ same-force m s (stamped c) (w .0 .left);
     })
     (c .if1 .came)
 
 pulsed-requires : tie.Need-pulsed-requires
 pulsed-requires c κs =
-    let m = c .before .before .before .before .before .before .before .before .before .before .before .before .args .self in
-    let p = c .before .before .before .before .before .before .before .before .before .before .before .before .args .p in
+    let m = c .before .before .before .before .before .before .before .before .before .before .before .before .before .args .self .state in
+    let p = c .before .before .before .before .before .before .before .before .before .before .before .before .before .args .p in
     let e = met c in
-    let f = pulses-fit m (p .stamp) (p .count .0) (sym (c .before .before .before .before .before .before .vet .ensures) ∙ c .before .before .before .before .enum-told3 .given .1) in
-    (rw (e .meter) (turned-good m (p .stamp) (stamped c)), (e .force ∙ sym (ap (λ (x : Meter). forceOn real (x .slots) (p .stamp .date)) (e .meter)), rw (sym (e .meter)) at f))
+    let f = pulses-fit m (p .stamp) (p .count .0) (sym (c .before .before .before .before .before .before .before .vet .ensures) ∙ c .before .before .before .before .before .enum-told3 .given .1) in
+    (rw (e .state) (turned-good m (p .stamp) (stamped c)), (e .force ∙ sym (ap (λ (x : State). forceOn real (x .slots) (p .stamp .date)) (e .state)), rw (sym (e .state)) at f))
+
+accepted-requires : tie.Need-accepted-requires
+accepted-requires c κs = search needs
 
 returns-3 : tie.Need-returns-3
 unfolding ownRefusal effectOf codesOf
 returns-3 c =
-    let m = c .before .before .before .before .before .before .before .before .before .before .before .before .before .args .self in
-    let p = c .before .before .before .before .before .before .before .before .before .before .before .before .before .args .p in
-    let e = met (c .before) in
-    c .pulsed .ensures
-    ∙ accepts m (call p) (stamped (c .before)) (sym (c .before .before .before .before .before .before .before .vet .ensures) ∙ c .before .before .before .before .before .enum-told3 .given .1)
-    (rw (e .meter))
-    (rw (e .codes, e .meter))
+    let j = c .before .before in
+    let m = j .before .before .before .before .before .before .before .before .before .before .before .before .before .args .self .state in
+    let p = j .before .before .before .before .before .before .before .before .before .before .before .before .before .args .p in
+    let e = met j in
+    c .accepted .ensures
+    ∙ accepts m (call p) (stamped j) (sym (j .before .before .before .before .before .before .before .vet .ensures) ∙ j .before .before .before .before .before .enum-told3 .given .1)
+    (c .before .pulsed .ensures .0 ∙ rw (e .state))
+    (c .before .pulsed .ensures .1 ∙ rw (e .codes, e .state))
 
 pub pulses-spec : {M : Type 1} → statement M
 pulses-spec =
@@ -152,4 +158,5 @@ pulses-spec =
     force-requires-2
     turned-requires
     pulsed-requires
+    accepted-requires
     returns-3)

@@ -5,12 +5,14 @@ use Rattle.answer.specs.declared.Answer.the-variants.{Accepted}
 use Rattle.slots.specs.World.{real}
 use Rattle.meter.specs.Machine.{declinedOf, deniedOf}
 use Rattle.meter.specs.Call.{recharge as call}
-use Rattle.meter.specs.Refusals.{stampRefusal, ownRefusal}
+use Rattle.state.specs.Refusals.{stampRefusal}
+use Rattle.meter.specs.Refusals.{ownRefusal}
 use Rattle.meter.specs.Effects.{effectOf, codesOf}
-use Rattle.meter.proofs.Outcomes.{not-admitted, admitted, own-refused, accepts, admitted-bounds}
-use Rattle.meter.proofs.Turned.{turn-account}
+use Rattle.state.proofs.Admitted.{admitted, admitted-bounds}
+use Rattle.meter.proofs.Outcomes.{held, not-admitted, own-refused, accepts}
+use Rattle.state.proofs.Turned.{turn-account}
 use Rattle.slots.proofs.Real.{real-laws}
-use Rattle.meter.proofs.Rooms.{state, turned-state, small-balance, low-serial, small-amount}
+use Rattle.state.proofs.Rooms.{state, turned-state, small-balance, low-serial, small-amount}
 use borrow.Author.Needs.{needs}
 use Rattle.meter.proofs.Meter.recharge.Statement.{statement}
 use Rattle.meter.proofs.Meter.recharge.Tie as tie
@@ -28,13 +30,13 @@ declined-requires : tie.Need-declined-requires
 declined-requires c κs = search needs
 
 returns : tie.Need-returns
-returns c = c .declined .ensures ∙ ap (declinedOf (c .before .before .before .before .args .self)) (c .before .enum-told2 .given .1) ∙ sym (not-admitted (c .before .before .before .before .args .self) (call (c .before .before .before .before .args .p)) _ (sym (c .before .before .before .admit .ensures) ∙ c .before .enum-told2 .given .1))
+returns c = c .declined .ensures ∙ ap (declinedOf (held (c .before .before .before .before .args .self .state))) (c .before .enum-told2 .given .1) ∙ sym (not-admitted (c .before .before .before .before .args .self .state) (call (c .before .before .before .before .args .p)) _ (sym (c .before .before .before .admit .ensures) ∙ c .before .enum-told2 .given .1))
 
 vet-requires : tie.Need-vet-requires
 vet-requires c κs =
-    let a : stampRefusal real (c .before .before .before .args .self) (c .before .before .before .args .p .stamp) ≡ Accepted = admitted (c .before .before .before .args .self) (c .before .before .before .args .p .stamp) _ (sym (c .before .before .admit .ensures) ∙ c .enum-told .given .1) .0 in
-    let s = state (c .before .before .before .args .self) (admitted-bounds (c .before .before .before .args .self) (c .before .before .before .args .p .stamp) a .0) in
-    (small-balance (c .before .before .before .args .self) s, low-serial (c .before .before .before .args .self) s)
+    let a : stampRefusal real (c .before .before .before .args .self .state) (c .before .before .before .args .p .stamp) ≡ Accepted = admitted (c .before .before .before .args .self .state) (c .before .before .before .args .p .stamp) _ (sym (c .before .before .admit .ensures) ∙ c .enum-told .given .1) .0 in
+    let s = state (c .before .before .before .args .self .state) (admitted-bounds (c .before .before .before .args .self .state) (c .before .before .before .args .p .stamp) a .0) in
+    (small-balance (c .before .before .before .args .self .state) s, low-serial (c .before .before .before .args .self .state) s)
 
 enum-told-3 : tie.Need-enum-told-3
 enum-told-3 c = search needs
@@ -48,21 +50,21 @@ denied-requires c κs = search needs
 returns-2 : tie.Need-returns-2
 unfolding ownRefusal
 returns-2 c =
-    let a : stampRefusal real (c .before .before .before .before .before .before .before .args .self) (c .before .before .before .before .before .before .before .args .p .stamp) ≡ Accepted = admitted (c .before .before .before .before .before .before .before .args .self) (c .before .before .before .before .before .before .before .args .p .stamp) _ (sym (c .before .before .before .before .before .before .admit .ensures) ∙ c .before .before .before .before .enum-told .given .1) .0 in
-    c .denied .ensures ∙ ap (deniedOf (c .before .before .before .before .before .before .before .args .self)) (c .before .enum-told4 .given .1) ∙ sym (own-refused (c .before .before .before .before .before .before .before .args .self) (call (c .before .before .before .before .before .before .before .args .p)) _ a (sym (c .before .before .before .vet .ensures) ∙ c .before .enum-told4 .given .1))
+    let a : stampRefusal real (c .before .before .before .before .before .before .before .args .self .state) (c .before .before .before .before .before .before .before .args .p .stamp) ≡ Accepted = admitted (c .before .before .before .before .before .before .before .args .self .state) (c .before .before .before .before .before .before .before .args .p .stamp) _ (sym (c .before .before .before .before .before .before .admit .ensures) ∙ c .before .before .before .before .enum-told .given .1) .0 in
+    c .denied .ensures ∙ ap (deniedOf (held (c .before .before .before .before .before .before .before .args .self .state))) (c .before .enum-told4 .given .1) ∙ sym (own-refused (c .before .before .before .before .before .before .before .args .self .state) (call (c .before .before .before .before .before .before .before .args .p)) _ a (sym (c .before .before .before .vet .ensures) ∙ c .before .enum-told4 .given .1))
 
 turn-requires : tie.Need-turn-requires
 turn-requires c κs =
-    let a : stampRefusal real (c .before .before .before .before .before .before .args .self) (c .before .before .before .before .before .before .args .p .stamp) ≡ Accepted = admitted (c .before .before .before .before .before .before .args .self) (c .before .before .before .before .before .before .args .p .stamp) _ (sym (c .before .before .before .before .before .admit .ensures) ∙ c .before .before .before .enum-told .given .1) .0 in
-    let b = admitted-bounds (c .before .before .before .before .before .before .args .self) (c .before .before .before .before .before .before .args .p .stamp) a in
+    let a : stampRefusal real (c .before .before .before .before .before .before .args .self .state) (c .before .before .before .before .before .before .args .p .stamp) ≡ Accepted = admitted (c .before .before .before .before .before .before .args .self .state) (c .before .before .before .before .before .before .args .p .stamp) _ (sym (c .before .before .before .before .before .admit .ensures) ∙ c .before .before .before .enum-told .given .1) .0 in
+    let b = admitted-bounds (c .before .before .before .before .before .before .args .self .state) (c .before .before .before .before .before .before .args .p .stamp) a in
     (b .0, b .1)
 
 recharged-requires : tie.Need-recharged-requires
 recharged-requires c κs =
-    let a : stampRefusal real (c .before .before .before .before .before .before .before .before .args .self) (c .before .before .before .before .before .before .before .before .args .p .stamp) ≡ Accepted = admitted (c .before .before .before .before .before .before .before .before .args .self) (c .before .before .before .before .before .before .before .before .args .p .stamp) _ (sym (c .before .before .before .before .before .before .before .admit .ensures) ∙ c .before .before .before .before .before .enum-told .given .1) .0 in
-    let s = state (c .before .before .before .before .before .before .before .before .args .self) (admitted-bounds (c .before .before .before .before .before .before .before .before .args .self) (c .before .before .before .before .before .before .before .before .args .p .stamp) a .0) in
-    rw (c .before .turn .ensures .0, turn-account real real-laws (c .before .before .before .before .before .before .before .before .args .self) (c .before .before .before .before .before .before .before .before .args .p .stamp))
-    (small-balance (c .before .before .before .before .before .before .before .before .args .self) s, small-amount (c .before .before .before .before .before .before .before .before .args .self) (c .before .before .before .before .before .before .before .before .args .p .amount .0) (c .before .before .before .before .before .before .before .before .args .p .serial) s (sym (c .before .before .before .before .vet .ensures) ∙ c .before .before .enum-told3 .given .1))
+    let a : stampRefusal real (c .before .before .before .before .before .before .before .before .args .self .state) (c .before .before .before .before .before .before .before .before .args .p .stamp) ≡ Accepted = admitted (c .before .before .before .before .before .before .before .before .args .self .state) (c .before .before .before .before .before .before .before .before .args .p .stamp) _ (sym (c .before .before .before .before .before .before .before .admit .ensures) ∙ c .before .before .before .before .before .enum-told .given .1) .0 in
+    let s = state (c .before .before .before .before .before .before .before .before .args .self .state) (admitted-bounds (c .before .before .before .before .before .before .before .before .args .self .state) (c .before .before .before .before .before .before .before .before .args .p .stamp) a .0) in
+    rw (c .before .turn .ensures .0, turn-account real real-laws (c .before .before .before .before .before .before .before .before .args .self .state) (c .before .before .before .before .before .before .before .before .args .p .stamp))
+    (small-balance (c .before .before .before .before .before .before .before .before .args .self .state) s, small-amount (c .before .before .before .before .before .before .before .before .args .self .state) (c .before .before .before .before .before .before .before .before .args .p .amount .0) (c .before .before .before .before .before .before .before .before .args .p .serial) s (sym (c .before .before .before .before .vet .ensures) ∙ c .before .before .enum-told3 .given .1))
 
 note-requires : tie.Need-note-requires
 note-requires c κs = search needs
@@ -73,9 +75,9 @@ accepted-requires c κs = search needs
 returns-3 : tie.Need-returns-3
 unfolding ownRefusal effectOf codesOf noteAll
 returns-3 c =
-    let a : stampRefusal real (c .before .before .before .before .before .before .before .before .before .before .before .args .self) (c .before .before .before .before .before .before .before .before .before .before .before .args .p .stamp) ≡ Accepted = admitted (c .before .before .before .before .before .before .before .before .before .before .before .args .self) (c .before .before .before .before .before .before .before .before .before .before .before .args .p .stamp) _ (sym (c .before .before .before .before .before .before .before .before .before .before .admit .ensures) ∙ c .before .before .before .before .before .before .before .before .enum-told .given .1) .0 in
+    let a : stampRefusal real (c .before .before .before .before .before .before .before .before .before .before .before .args .self .state) (c .before .before .before .before .before .before .before .before .before .before .before .args .p .stamp) ≡ Accepted = admitted (c .before .before .before .before .before .before .before .before .before .before .before .args .self .state) (c .before .before .before .before .before .before .before .before .before .before .before .args .p .stamp) _ (sym (c .before .before .before .before .before .before .before .before .before .before .admit .ensures) ∙ c .before .before .before .before .before .before .before .before .enum-told .given .1) .0 in
     c .accepted .ensures
-    ∙ accepts (c .before .before .before .before .before .before .before .before .before .before .before .args .self) (call (c .before .before .before .before .before .before .before .before .before .before .before .args .p)) a (sym (c .before .before .before .before .before .before .before .vet .ensures) ∙ c .before .before .before .before .before .enum-told3 .given .1)
+    ∙ accepts (c .before .before .before .before .before .before .before .before .before .before .before .args .self .state) (call (c .before .before .before .before .before .before .before .before .before .before .before .args .p)) a (sym (c .before .before .before .before .before .before .before .vet .ensures) ∙ c .before .before .before .before .before .enum-told3 .given .1)
     (rw (c .before .before .recharged .ensures, c .before .before .before .before .turn .ensures .0))
     (rw (c .before .note .ensures, c .before .before .before .before .turn .ensures .1))
 

@@ -1,0 +1,57 @@
+-- What admission tells: a stamp that was admitted, and the reading of a stamp.
+use mathlib.Core.Path.{_≡_, refl}
+use mathlib.Core.Bool.{Bool, true, false, cond}
+use Prim.Native.Nat.{ℕ}
+use native.Mathlib.Omega.{arith}
+use Rattle.answer.specs.declared.Answer.{Answer}
+use Rattle.answer.specs.declared.Answer.the-variants.{Accepted, Refused}
+use Rattle.answer.specs.Answer.{need}
+use Rattle.answer.proofs.Tests.{need-first, need-rest}
+use Rattle.calendar.specs.declared.Stamp.{Stamp}
+use Rattle.calendar.specs.declared.Dated.the-variants.{On, Refused as Off}
+use Rattle.calendar.specs.Stamp.{isStamp, dated, notBefore}
+use Rattle.slots.specs.World.{World, real}
+use Rattle.state.specs.declared.State.{State}
+use Rattle.state.specs.Bounds.{stampGood, bounded}
+use Rattle.state.specs.Refusals.{stampRefusal, datedBy}
+
+-- an admitted stamp
+pub admitted : (m : State) (s : Stamp) (d : ℕ) → datedBy (stampRefusal real m s) (s .date) ≡ On d → (stampRefusal real m s ≡ Accepted) × (d ≡ s .date)
+admitted m s d h = go (stampRefusal real m s) refl h
+  where
+    go : (a : Answer) → stampRefusal real m s ≡ a → datedBy a (s .date) ≡ On d → (stampRefusal real m s ≡ Accepted) × (d ≡ s .date)
+    go Accepted e k = (e, (cc))
+    go (Refused i) e k = let z : _≡_ {A = ℕ} 0 1 = cc in absurd (omega arith)
+
+-- what admission tells, in any world: within bounds, a good stamp, and not before the clock
+pub stamp-passed :
+    (w : World) (m : State) (s : Stamp) → stampRefusal w m s ≡ Accepted →
+    (bounded w m ≡ true) × (stampGood w s ≡ true) × (notBefore (m .clock) s ≡ true)
+unfolding stampRefusal
+stamp-passed w m s h =
+    let c9 = need (notBefore (m .clock) s) 9 Accepted in
+    let c8 = need (stampGood w s) 8 c9 in
+    let b : c8 ≡ Accepted = need-rest (bounded w m) 0 c8 h in
+    (need-first (bounded w m) 0 c8 h, need-first (stampGood w s) 8 c9 b, need-first (notBefore (m .clock) s) 9 Accepted (need-rest (stampGood w s) 8 c9 b))
+
+pub admitted-bounds :
+    (m : State) (s : Stamp) → stampRefusal real m s ≡ Accepted →
+    (bounded real m ≡ true) × (stampGood real s ≡ true) × (notBefore (m .clock) s ≡ true)
+admitted-bounds = stamp-passed real
+
+-- the reading of a stamp, in both cases
+pub read-on : (s : Stamp) {d : ℕ} → dated s ≡ On d → (stampGood real s ≡ true) × (d ≡ s .date)
+unfolding dated isStamp stampGood
+read-on s {d} h = go (isStamp s) refl h
+  where
+    go : (b : Bool) → isStamp s ≡ b → cond b (On (s .date)) (Off 8) ≡ On d → (stampGood real s ≡ true) × (d ≡ s .date)
+    go true e k = (e, (cc))
+    go false e k = let z : _≡_ {A = ℕ} 0 1 = cc in absurd (omega arith)
+
+pub read-off : (s : Stamp) {n : ℕ} → dated s ≡ Off n → (stampGood real s ≡ false) × (n ≡ 8)
+unfolding dated isStamp stampGood
+read-off s {n} h = go (isStamp s) refl h
+  where
+    go : (b : Bool) → isStamp s ≡ b → cond b (On (s .date)) (Off 8) ≡ Off n → (stampGood real s ≡ false) × (n ≡ 8)
+    go true e k = let z : _≡_ {A = ℕ} 0 1 = cc in absurd (omega arith)
+    go false e k = (e, (cc))

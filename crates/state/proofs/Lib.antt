@@ -1,0 +1,5 @@
+pub mod Admitted
+pub mod Parts
+pub mod Turned
+pub mod Pulses
+pub mod Rooms

@@ -1,0 +1,187 @@
+-- What the bounds of a meter leave for the leaves of a call, before and after the day is turned.
+use mathlib.Core.Path.{_≡_, refl, sym, ap, _∙_}
+use mathlib.Core.Bool.{Bool, true, false, cond, not, _&&_, _||_}
+use mathlib.Core.List.{[]}
+use Prim.Native.Nat.{ℕ, _+_, _*_, _^_, _≤_, _<_}
+use native.Mathlib.Omega.{arith}
+use lib.Dec.{leb, ltb, eqb}
+use Rattle.units.specs.Money.{Small}
+use Rattle.units.specs.Volume.{highestTotal}
+use Rattle.answer.specs.declared.Answer.the-variants.{Accepted}
+use Rattle.answer.specs.Answer.{need}
+use Rattle.answer.proofs.Tests.{cases, never, and-left, and-right, not-true, need-first, need-rest}
+use borrow.Author.Tests.{le-ltb, leb-true, eq-eqb, ne-eqb, eqb-false}
+use Rattle.calendar.specs.declared.Stamp.{Stamp}
+use Rattle.calendar.specs.Date.{isDate}
+use Rattle.calendar.specs.Stamp.{notBefore}
+use Rattle.calendar.proofs.Stamps.{not-before-date}
+use Rattle.account.specs.Account.{rechargeRefusal}
+use Rattle.account.proofs.Kept.{account-room, recharge-small}
+use Rattle.journal.proofs.Room.{room}
+use Rattle.slots.specs.declared.Slot.{Slot}
+use Rattle.slots.specs.World.{real}
+use Rattle.slots.specs.Slots.{inSlot, someForce, slotOn, forceOn, fee, slotsTurned}
+use Rattle.slots.specs.Bounds.{slotGood, apart, freshSlots}
+use Rattle.slots.proofs.Real.{real-laws}
+use Rattle.state.specs.declared.Volumes.{Volumes}
+use Rattle.state.specs.declared.State.{State}
+use Rattle.state.specs.State.{withClock}
+use Rattle.state.specs.Bounds.{stampGood, noClock, isFresh, freshVolumes, stateGood, bounded}
+use Rattle.account.specs.Account.{freshAccount}
+use Rattle.state.specs.Turn.{turn, turnedTo, turnCodes}
+use Rattle.state.specs.Refusals.{stampRefusal, pulseRefusal}
+use Rattle.state.proofs.Parts.{Parts, state-in, state-out, bounded-state}
+use Rattle.state.proofs.Turned.{slots-in, total-in, total-low, turn-state, turn-account, turn-volumes}
+use Rattle.state.proofs.Pulses.{fee-cap}
+use Rattle.state.proofs.Admitted.{admitted-bounds}
+
+-- the bounds in parts
+pub state : (m : State) → bounded real m ≡ true → Parts real real-laws m
+state m h = bounded-state real real-laws m h
+
+pub turned-state : (m : State) (s : Stamp) → stampRefusal real m s ≡ Accepted → Parts real real-laws (turn real m s)
+turned-state m s h =
+    let a = admitted-bounds m s h in
+    turn-state real real-laws m s (not-before-date (m .clock) s (a .2)) (state m (a .0))
+
+-- the slots of a meter within its bounds
+pub slot-one : (m : State) → Parts real real-laws m → slotGood real (m .slots .one) ≡ true
+slot-one m s = slots-in real real-laws (m .slots) (m .clock .date) (m .volumes .total .0) (s .slots) .one
+
+pub slot-two : (m : State) → Parts real real-laws m → slotGood real (m .slots .two) ≡ true
+slot-two m s = slots-in real real-laws (m .slots) (m .clock .date) (m .volumes .total .0) (s .slots) .two
+
+pub slots-apart : (m : State) → Parts real real-laws m → apart real (m .slots .one) (m .slots .two) (m .clock .date) ≡ true
+slots-apart m s = slots-in real real-laws (m .slots) (m .clock .date) (m .volumes .total .0) (s .slots) .apart
+
+-- a plan in force on the clock's date: the clock has a date
+no-slot : (s : Slot) (d : ℕ) → s .loaded ≡ false → inSlot real s d ≡ false
+unfolding inSlot
+no-slot s d h = rw h
+
+fresh-slots : (m : State) → isFresh m ≡ true → freshSlots (m .slots) ≡ true
+unfolding isFresh
+fresh-slots m h =
+    and-left (freshSlots (m .slots)) _ (and-right (freshAccount (m .account)) _ (and-right (eqb (m .clock .second) 0) _ h))
+
+fresh-unloaded : (m : State) → isFresh m ≡ true → (m .slots .one .loaded ≡ false) × (m .slots .two .loaded ≡ false)
+unfolding freshSlots
+fresh-unloaded m h =
+    let s = m .slots in
+    let k = fresh-slots m h in
+    let e1 = not (s .two .loaded) && eqb (s .usage .0) 0 in
+    let h1 : e1 ≡ true = and-right (not (s .one .loaded)) e1 k in
+    (not-true (s .one .loaded) (and-left (not (s .one .loaded)) e1 k), not-true (s .two .loaded) (and-left (not (s .two .loaded)) (eqb (s .usage .0) 0) h1))
+
+clocked : (m : State) → bounded real m ≡ true → noClock m ≡ false → isDate (m .clock .date) ≡ true
+unfolding bounded stampGood
+clocked m h q =
+    let k : ((isDate (m .clock .date) && leb (m .clock .second) 86399) && stateGood real m) ≡ true = rw q at h in
+    and-left (isDate (m .clock .date)) _ (and-left (isDate (m .clock .date) && leb (m .clock .second) 86399) _ k)
+
+unclocked : (m : State) → bounded real m ≡ true → noClock m ≡ true → isFresh m ≡ true
+unfolding bounded
+unclocked m h q = rw q at h
+
+pub date-some : (m : State) → bounded real m ≡ true → someForce real (m .slots) (m .clock .date) ≡ true → isDate (m .clock .date) ≡ true
+unfolding someForce
+date-some m h i = cases (noClock m) (λ q. absurd (never i (none (fresh-unloaded m (unclocked m h q))))) (λ q. clocked m h q)
+  where
+    none : (m .slots .one .loaded ≡ false) × (m .slots .two .loaded ≡ false) → someForce real (m .slots) (m .clock .date) ≡ false
+    none u = rw (no-slot (m .slots .one) (m .clock .date) (u .0), no-slot (m .slots .two) (m .clock .date) (u .1))
+
+pub stamp-date : (s : Stamp) → stampGood real s ≡ true → isDate (s .date) ≡ true
+unfolding stampGood
+stamp-date s h = and-left (isDate (s .date)) (leb (s .second) 86399) h
+
+-- a pulse call
+pub record PulseRoom (m : State) (n : ℕ) : Type 0 where
+  pub one : slotGood real (m .slots .one) ≡ true
+  pub two : slotGood real (m .slots .two) ≡ true
+  pub usage : m .slots .usage .0 + n < 2 ^ 32
+  pub small : Small (m .account .balance .0)
+  pub cost : fee real (m .slots) (m .clock .date) n ≤ n * 99999999
+  pub few : n ≤ 99999999
+  pub total : m .volumes .total .0 + n < 2 ^ 32
+  pub unpriced : m .volumes .unpriced .0 + n < 2 ^ 32
+  pub day : m .journal .day .volume .0 + n < 2 ^ 32
+  pub month : m .journal .month .volume .0 + n < 2 ^ 32
+  pub dayCharge : m .journal .day .charge .0 ≤ 99999999 * 99999999
+  pub monthCharge : m .journal .month .charge .0 ≤ 99999999 * 99999999
+
+pub pulse-room : (m : State) (n : ℕ) → stateGood real m ≡ true → m .volumes .total .0 + n ≤ 99999999 → PulseRoom m n
+pulse-room m n h t =
+    let s = state-in real real-laws m h in
+    let a = slots-in real real-laws (m .slots) (m .clock .date) (m .volumes .total .0) (s .slots) in
+    let c = account-room (m .account) (m .volumes .total .0) (s .account) (total-low real real-laws m s) in
+    let j = room (m .volumes .total .0) (m .journal) (s .journal) in
+    record {
+      one = a .one;
+      two = a .two;
+      usage = omega (arith, a .usage);
+      small = c .small;
+      cost = fee-cap real real-laws (m .slots) (m .clock .date) (m .volumes .total .0) n a;
+      few = omega arith;
+      total = omega arith;
+      unpriced = omega (arith, total-in real real-laws (m .volumes) (s .volumes) .1);
+      day = omega (arith, j .dayVolume);
+      month = omega (arith, j .monthVolume);
+      dayCharge = omega (arith, j .dayCharge);
+      monthCharge = omega (arith, j .monthCharge);
+    }
+
+-- after an accepted test of the count, on the turned meter
+pub pulses-fit : (m : State) (s : Stamp) (n : ℕ) → pulseRefusal (m .volumes) n ≡ Accepted → turn real m s .volumes .total .0 + n ≤ 99999999
+unfolding pulseRefusal
+pulses-fit m s n h =
+    let c14 = need (leb (m .volumes .total .0 + n) highestTotal) 14 Accepted in
+    let k = leb-true (m .volumes .total .0 + n) highestTotal (need-first (leb (m .volumes .total .0 + n) highestTotal) 14 Accepted (need-rest (leb n 65535) 13 c14 h)) in
+    rw (turn-volumes real real-laws m s) k
+
+pub turned-good : (m : State) (s : Stamp) → stampRefusal real m s ≡ Accepted → stateGood real (turn real m s) ≡ true
+turned-good m s h = state-out real real-laws (turn real m s) (turned-state m s h)
+
+-- a stamp of the clock's own date turns no day; after a turn the clock is the stamp
+pub same-day : (m : State) (s : Stamp) → s .date ≤ m .clock .date → turn real m s ≡ withClock m s
+unfolding turn
+same-day m s h = rw (le-ltb _ _ h)
+
+pub same-day-codes : (m : State) (s : Stamp) → s .date ≤ m .clock .date → turnCodes real m s ≡ []
+unfolding turnCodes
+same-day-codes m s h = rw (le-ltb _ _ h)
+
+pub clock-set : (m : State) (s : Stamp) → withClock (turn real m s) s ≡ turn real m s
+unfolding turn turnedTo
+clock-set m s = cases (ltb (m .clock .date) (s .date)) (λ h. rw h) (λ h. rw h)
+
+-- the slot in force on the stamp's date, after the turn and before it
+pub later-force : (m : State) (s : Stamp) → forceOn real (m .slots) (s .date) ≡ forceOn real (turn real m s .slots) (s .date)
+unfolding turn turnedTo slotsTurned slotOn
+later-force m s = cases (ltb (m .clock .date) (s .date)) (λ h. rw h) (λ h. rw h)
+
+pub same-force :
+    (m : State) (s : Stamp) → stampRefusal real m s ≡ Accepted → s .date ≤ m .clock .date →
+    forceOn real (m .slots) (m .clock .date) ≡ forceOn real (turn real m s .slots) (s .date)
+same-force m s h l =
+    let e : m .clock .date ≡ s .date = omega (arith, not-before-date (m .clock) s (admitted-bounds m s h .2)) in
+    ap (forceOn real (m .slots)) e ∙ later-force m s
+
+-- an account within its bounds
+pub small-balance : (m : State) → Parts real real-laws m → Small (m .account .balance .0)
+small-balance m s = account-room (m .account) (m .volumes .total .0) (s .account) (total-low real real-laws m s) .small
+
+pub low-serial : (m : State) → Parts real real-laws m → m .account .serial ≤ 65535
+low-serial m s = account-room (m .account) (m .volumes .total .0) (s .account) (total-low real real-laws m s) .serial
+
+pub small-amount : (m : State) (amount serial : ℕ) → Parts real real-laws m → rechargeRefusal (m .account) amount serial ≡ Accepted → amount ≤ 2 ^ 55
+small-amount m amount serial s h = recharge-small (m .account) (m .volumes .total .0) amount serial (s .account) (total-low real real-laws m s) h
+
+-- the station's two commands
+pub is-command : (k : ℕ) → k ≤ 1 → (eqb k 0 || eqb k 1) ≡ true
+is-command k h = cases (eqb k 0) (λ e. rw e) (λ e. rw (e, eq-eqb k 1 (one-left k h (eqb-false k 0 e))))
+  where
+    one-left : (k : ℕ) → k ≤ 1 → (k ≡ 0 → ⊥) → k ≡ 1
+    one-left k h n = omega arith
+
+pub no-command : (k : ℕ) → 1 < k → (eqb k 0 || eqb k 1) ≡ false
+no-command k h = rw (ne-eqb k 0 (λ e. omega arith), ne-eqb k 1 (λ e. omega arith))

@@ -1,0 +1,45 @@
+-- Document 01, "Bounds of a meter": the test behind refusal 0.
+use mathlib.Core.Bool.{Bool, cond, _&&_}
+use lib.Dec.{leb, eqb}
+use Rattle.units.specs.Volume.{highestTotal}
+use Rattle.calendar.specs.declared.Stamp.{Stamp}
+use Rattle.account.specs.Account.{accountGood, freshAccount}
+use Rattle.account.specs.Valve.{freshValve}
+use Rattle.journal.specs.Bounds.{journalGood, freshJournal}
+use Rattle.slots.specs.World.{World}
+use Rattle.slots.specs.Bounds.{slotsGood, idleGood, freshSlots}
+use Rattle.state.specs.declared.Volumes.{Volumes}
+use Rattle.state.specs.declared.State.{State}
+
+-- a date in the calendar and a second of 0 to 86,399: refusal 8
+unfoldable pub stampGood : World → Stamp → Bool
+stampGood w s = w .date (s .date) && leb (s .second) 86399
+
+-- no accepted call yet
+abbrev pub noClock : State → Bool
+noClock m = eqb (m .clock .date) 0
+
+unfoldable pub freshVolumes : Volumes → Bool
+freshVolumes v = eqb (v .total .0) 0 && eqb (v .unpriced .0) 0
+
+-- "without a clock it is the fresh one": every group at its fresh values
+unfoldable pub isFresh : State → Bool
+isFresh m =
+    eqb (m .clock .second) 0 && (freshAccount (m .account) && (freshSlots (m .slots) && (freshVolumes (m .volumes)
+    && (freshValve (m .valve) && freshJournal (m .journal)))))
+
+-- "total is at most 99,999,999, every other volume .. at most the total"
+unfoldable pub volumesGood : Volumes → Bool
+volumesGood v = leb (v .total .0) highestTotal && leb (v .unpriced .0) (v .total .0)
+
+-- "last serial, alarms and loaded plans are as the refusals allow, no date from the clock's on has both plans in force" and the rest.
+-- The open day and month are the clock's: they hold no date of their own.
+unfoldable pub stateGood : World → State → Bool
+stateGood w m =
+    volumesGood (m .volumes) && (accountGood (m .account) (m .volumes .total .0)
+    && (slotsGood w (m .slots) (m .clock .date) (m .volumes .total .0)
+    && (journalGood (m .volumes .total .0) (m .journal) && idleGood w (m .slots) (m .valve .opened) (m .clock .date))))
+
+-- "without a clock it is the fresh one. Otherwise clock .. as the refusals allow" and the state within its bounds
+unfoldable pub bounded : World → State → Bool
+bounded w m = cond (noClock m) (isFresh m) (stampGood w (m .clock) && stateGood w m)

@@ -1,0 +1,34 @@
+-- Document 01, "Each accepted call first turns the day."
+use mathlib.Core.Bool.{cond}
+use mathlib.Core.List.{List, []}
+use Prim.Native.Nat.{ℕ}
+use lib.Dec.{ltb, eqb}
+use Rattle.calendar.specs.declared.Stamp.{Stamp}
+use Rattle.account.specs.Valve.{valveKept, expiryCodes}
+use Rattle.journal.specs.Turn.{turned}
+use Rattle.slots.specs.World.{World}
+use Rattle.slots.specs.Slots.{someForce, slotsTurned}
+use Rattle.state.specs.declared.State.{State}
+use Rattle.state.specs.State.{withClock}
+use Rattle.state.specs.Bounds.{noClock}
+
+-- a later date: the open day becomes a record, and a later month likewise; usage is kept or begins at 0; with no plan in force an open
+-- valve closes. "The first accepted call turns no day; it opens its day and month."
+unfoldable pub turnedTo : World → State → Stamp → State
+turnedTo w m s = record {
+  clock = s;
+  account = m .account;
+  slots = slotsTurned w (m .slots) (m .clock .date) (s .date);
+  volumes = m .volumes;
+  valve = valveKept (m .valve) (someForce w (m .slots) (s .date));
+  journal = cond (noClock m) (m .journal) (turned (m .journal) (m .clock .date) (s .date) (m .account .balance));
+}
+
+-- "If its date is later than the clock's ..; then the clock takes the stamp."
+unfoldable pub turn : World → State → Stamp → State
+turn w m s = cond (ltb (m .clock .date) (s .date)) (turnedTo w m s) (withClock m s)
+
+unfoldable pub turnCodes : World → State → Stamp → List ℕ
+turnCodes w m s =
+    cond (ltb (m .clock .date) (s .date))
+    (expiryCodes (someForce w (m .slots) (m .clock .date)) (someForce w (m .slots) (s .date)) (m .valve .opened)) []

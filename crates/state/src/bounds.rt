@@ -1,0 +1,62 @@
+// Document 01, "Bounds of a meter": what a meter that a host hands in must keep.
+use crate::State;
+use crate::Volumes;
+ghost use mathlib.Core.Path.{_≡_};
+ghost use Rattle.slots.specs.World.{real};
+ghost use Rattle.slots.specs.Slots.{someForce};
+ghost use Rattle.state.specs.Bounds.{freshVolumes, isFresh, volumesGood, stateGood, bounded};
+
+impl Volumes {
+    fn is_fresh(self) -> bool
+        ensures { λ r. ⌜ r ≡ freshVolumes self ⌝ }
+    {
+        self.total.0 == 0 && self.unpriced.0 == 0
+    }
+
+    fn is_good(self) -> bool
+        ensures { λ r. ⌜ r ≡ volumesGood self ⌝ }
+    {
+        self.total.0 <= 99_999_999 && self.unpriced.0 <= self.total.0
+    }
+}
+
+impl State {
+    fn is_fresh(self) -> bool
+        ensures { λ r. ⌜ r ≡ isFresh self ⌝ }
+    {
+        self.clock.second == 0
+            && (self.account.is_fresh()
+                && (self.slots.is_fresh()
+                    && (self.volumes.is_fresh()
+                        && (self.valve.is_fresh() && self.journal.is_fresh()))))
+    }
+
+    fn state_good(self, some: bool) -> bool
+        requires { ⌜ some ≡ someForce real (self .slots) (self .clock .date) ⌝ }
+        ensures { λ r. ⌜ r ≡ stateGood real self ⌝ }
+    {
+        self.volumes.is_good()
+            && (self.account.is_good(self.volumes.total)
+                && (self.slots.is_good(self.clock.date, self.volumes.total)
+                    && (self.journal.is_good(self.volumes.total)
+                        && self.slots.idle_good(some, self.valve.opened))))
+    }
+
+    // Whether the meter is within its bounds, `some` being whether a plan is in force on the clock's date.
+    pub(crate) fn bounded_on(self, some: bool) -> bool
+        requires { ⌜ some ≡ someForce real (self .slots) (self .clock .date) ⌝ }
+        ensures { λ r. ⌜ r ≡ bounded real self ⌝ }
+    {
+        if self.clock.date == 0 {
+            return self.is_fresh();
+        }
+        self.clock.is_stamp() && self.state_good(some)
+    }
+
+    // Whether the meter is within its bounds: refusal 0 where it is not.
+    pub fn is_bounded(self) -> bool
+        ensures { λ r. ⌜ r ≡ bounded real self ⌝ }
+    {
+        self.bounded_on(self.slots.some_force(self.clock.date))
+    }
+}
