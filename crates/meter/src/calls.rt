@@ -38,8 +38,8 @@ impl Meter {
             codes = t.codes;
             f = is;
         }
-        let t = s.pulsed(f, p.stamp, p.count, codes);
-        Meter::accepted(t.state, t.codes)
+        let after = s.pulsed(f, p.stamp, p.count, codes);
+        Meter::accepted(after.state, after.codes)
     }
 
     // A recharge bought at a counter.
