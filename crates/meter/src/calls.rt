@@ -20,8 +20,8 @@ impl Meter {
     pub fn pulses(self, p: Pulses) -> Outcome
         ensures { λ r. ⌜ r ≡ outcome self (pulsesCall p) ⌝ }
     {
-        let mut f = self.state.slots.force(self.state.clock.date);
-        let d = self.state.admit_on(f.slot != 0, p.stamp);
+        let was = self.state.slots.force(self.state.clock.date);
+        let d = self.state.admit(was.slot != 0, p.stamp);
         let Dated::On(_) = d else {
             return self.declined(d);
         };
@@ -31,12 +31,12 @@ impl Meter {
         };
         let mut s = self.state;
         let mut codes = Codes::none();
+        let mut f = was;
         if self.state.clock.date < p.stamp.date {
-            let is = self.state.slots.force(p.stamp.date);
-            let t = self.state.turned(f, is, p.stamp);
+            f = self.state.slots.force(p.stamp.date);
+            let t = self.state.turn(was, f, p.stamp);
             s = t.state;
             codes = t.codes;
-            f = is;
         }
         let after = s.pulsed(f, p.stamp, p.count, codes);
         Meter::accepted(after.state, after.codes)
@@ -46,7 +46,8 @@ impl Meter {
     pub fn recharge(self, p: Recharge) -> Outcome
         ensures { λ r. ⌜ r ≡ outcome self (rechargeCall p) ⌝ }
     {
-        let d = self.state.admit(p.stamp);
+        let was = self.state.slots.force(self.state.clock.date);
+        let d = self.state.admit(was.slot != 0, p.stamp);
         let Dated::On(_) = d else {
             return self.declined(d);
         };
@@ -54,7 +55,8 @@ impl Meter {
         let Answer::Accepted = a else {
             return self.denied(a);
         };
-        let t = self.state.turn(p.stamp);
+        let t = self.state
+            .turn(was, self.state.slots.force(p.stamp.date), p.stamp);
         let mut next = t.state;
         next.account = next.account.recharged(p.amount, p.serial);
         Meter::accepted(next, t.codes.note(0x21))
@@ -64,7 +66,8 @@ impl Meter {
     pub fn load(self, p: Load, bytes: &[u8]) -> Outcome
         ensures { λ r. ⌜ r ≡ outcome self (loadCall p (now (bytes .entry))) ⌝ }
     {
-        let d = self.state.admit(p.stamp);
+        let was = self.state.slots.force(self.state.clock.date);
+        let d = self.state.admit(was.slot != 0, p.stamp);
         let Dated::On(date) = d else {
             return self.declined(d);
         };
@@ -73,7 +76,8 @@ impl Meter {
         let Answer::Accepted = a else {
             return self.denied(a);
         };
-        let t = self.state.turn(p.stamp);
+        let t = self.state
+            .turn(was, self.state.slots.force(p.stamp.date), p.stamp);
         let mut next = t.state;
         next.slots = next.slots.loaded(p.slot, r.plan);
         Meter::accepted(next, t.codes.note(0x27))
@@ -83,14 +87,16 @@ impl Meter {
     pub fn alarms(self, p: Alarms) -> Outcome
         ensures { λ r. ⌜ r ≡ outcome self (alarmsCall p) ⌝ }
     {
-        let d = self.state.admit(p.stamp);
+        let was = self.state.slots.force(self.state.clock.date);
+        let d = self.state.admit(was.slot != 0, p.stamp);
         let Dated::On(_) = d else {
             return self.declined(d);
         };
         if !account::alarms_good(p.one, p.two) {
             return self.refused(23);
         }
-        let t = self.state.turn(p.stamp);
+        let t = self.state
+            .turn(was, self.state.slots.force(p.stamp.date), p.stamp);
         let mut next = t.state;
         next.account = next.account.alarmed(p.one, p.two);
         Meter::accepted(next, t.codes.note(0x27))
@@ -100,7 +106,8 @@ impl Meter {
     pub fn command(self, p: Command) -> Outcome
         ensures { λ r. ⌜ r ≡ outcome self (commandCall p) ⌝ }
     {
-        let d = self.state.admit(p.stamp);
+        let was = self.state.slots.force(self.state.clock.date);
+        let d = self.state.admit(was.slot != 0, p.stamp);
         let Dated::On(_) = d else {
             return self.declined(d);
         };
@@ -108,7 +115,8 @@ impl Meter {
             return self.refused(21);
         }
         let allow = p.code == 1;
-        let t = self.state.turn(p.stamp);
+        let t = self.state
+            .turn(was, self.state.slots.force(p.stamp.date), p.stamp);
         let mut next = t.state;
         let codes = next.valve.command_codes(allow, t.codes);
         next.valve = next.valve.commanded(allow);
@@ -119,14 +127,16 @@ impl Meter {
     pub fn key(self, p: Key) -> Outcome
         ensures { λ r. ⌜ r ≡ outcome self (keyCall p) ⌝ }
     {
-        let d = self.state.admit(p.stamp);
+        let was = self.state.slots.force(self.state.clock.date);
+        let d = self.state.admit(was.slot != 0, p.stamp);
         let Dated::On(date) = d else {
             return self.declined(d);
         };
         if !self.state.key_allowed(date) {
             return self.refused(22);
         }
-        let t = self.state.turn(p.stamp);
+        let t = self.state
+            .turn(was, self.state.slots.force(p.stamp.date), p.stamp);
         let mut next = t.state;
         let codes = next.valve.key_codes(t.codes);
         next.valve = next.valve.set(true);
@@ -137,11 +147,13 @@ impl Meter {
     pub fn tick(self, p: Tick) -> Outcome
         ensures { λ r. ⌜ r ≡ outcome self (tickCall p) ⌝ }
     {
-        let d = self.state.admit(p.stamp);
+        let was = self.state.slots.force(self.state.clock.date);
+        let d = self.state.admit(was.slot != 0, p.stamp);
         let Dated::On(_) = d else {
             return self.declined(d);
         };
-        let t = self.state.turn(p.stamp);
+        let t = self.state
+            .turn(was, self.state.slots.force(p.stamp.date), p.stamp);
         Meter::accepted(t.state, t.codes)
     }
 }

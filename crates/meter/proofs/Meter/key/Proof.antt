@@ -3,6 +3,7 @@ use mathlib.Core.Path.{_≡_, refl, sym, ap, _∙_}
 use Rattle.account.specs.Codes.{noteAll}
 use Rattle.answer.specs.declared.Answer.the-variants.{Accepted}
 use Rattle.slots.specs.World.{real}
+use Rattle.slots.proofs.InForce.{its-some}
 use Rattle.meter.specs.Machine.{declinedOf, deniedOf}
 use Rattle.meter.specs.Call.{key as call}
 use Rattle.state.specs.Refusals.{stampRefusal}
@@ -15,8 +16,11 @@ use borrow.Author.Needs.{needs}
 use Rattle.meter.proofs.Meter.key.Statement.{statement}
 use Rattle.meter.proofs.Meter.key.Tie as tie
 
+force-requires : tie.Need-force-requires
+force-requires c κs = search needs
+
 admit-requires : tie.Need-admit-requires
-admit-requires c κs = search needs
+admit-requires c κs = its-some real (c .before .before .args .self .state .slots) (c .before .force .ensures)
 
 enum-known-d : tie.Need-enum-known-d
 enum-known-d c = search needs
@@ -28,7 +32,7 @@ declined-requires : tie.Need-declined-requires
 declined-requires c κs = search needs
 
 returns : tie.Need-returns
-returns c = c .declined .ensures ∙ ap (declinedOf (held (c .before .before .before .before .args .self .state))) (c .before .enum-told .given .1) ∙ sym (not-admitted (c .before .before .before .before .args .self .state) (call (c .before .before .before .before .args .p)) _ (sym (c .before .before .before .admit .ensures) ∙ c .before .enum-told .given .1))
+returns c = c .declined .ensures ∙ ap (declinedOf (held (c .before .before .before .before .before .before .args .self .state))) (c .before .enum-told .given .1) ∙ sym (not-admitted (c .before .before .before .before .before .before .args .self .state) (call (c .before .before .before .before .before .before .args .p)) _ (sym (c .before .before .before .admit .ensures) ∙ c .before .enum-told .given .1))
 
 key-allowed-requires : tie.Need-key-allowed-requires
 key-allowed-requires c κs = search needs
@@ -39,15 +43,18 @@ refused-requires c κs = search needs
 returns-2 : tie.Need-returns-2
 unfolding ownRefusal
 returns-2 c =
-    let a : stampRefusal real (c .before .before .before .before .before .before .before .args .self .state) (c .before .before .before .before .before .before .before .args .p .stamp) ≡ Accepted = admitted (c .before .before .before .before .before .before .before .args .self .state) (c .before .before .before .before .before .before .before .args .p .stamp) _ (sym (c .before .before .before .before .before .before .admit .ensures) ∙ c .before .before .before .before .d .given .1) .0 in
-    let e = admitted (c .before .before .before .before .before .before .before .args .self .state) (c .before .before .before .before .before .before .before .args .p .stamp) _ (sym (c .before .before .before .before .before .before .admit .ensures) ∙ c .before .before .before .before .d .given .1) .1 in
-    c .refused .ensures ∙ sym (own-refused (c .before .before .before .before .before .before .before .args .self .state) (call (c .before .before .before .before .before .before .before .args .p)) 22 a (rw (← e, sym (c .before .before .key-allowed .ensures) ∙ not-true _ (c .before .if1 .taken))))
+    let a : stampRefusal real (c .before .before .before .before .before .before .before .before .before .args .self .state) (c .before .before .before .before .before .before .before .before .before .args .p .stamp) ≡ Accepted = admitted (c .before .before .before .before .before .before .before .before .before .args .self .state) (c .before .before .before .before .before .before .before .before .before .args .p .stamp) _ (sym (c .before .before .before .before .before .before .admit .ensures) ∙ c .before .before .before .before .d .given .1) .0 in
+    let e = admitted (c .before .before .before .before .before .before .before .before .before .args .self .state) (c .before .before .before .before .before .before .before .before .before .args .p .stamp) _ (sym (c .before .before .before .before .before .before .admit .ensures) ∙ c .before .before .before .before .d .given .1) .1 in
+    c .refused .ensures ∙ sym (own-refused (c .before .before .before .before .before .before .before .before .before .args .self .state) (call (c .before .before .before .before .before .before .before .before .before .args .p)) 22 a (rw (← e, sym (c .before .before .key-allowed .ensures) ∙ not-true _ (c .before .if1 .taken))))
+
+force-requires-2 : tie.Need-force-requires-2
+force-requires-2 c κs = search needs
 
 turn-requires : tie.Need-turn-requires
 turn-requires c κs =
-    let a : stampRefusal real (c .before .before .before .before .before .before .args .self .state) (c .before .before .before .before .before .before .args .p .stamp) ≡ Accepted = admitted (c .before .before .before .before .before .before .args .self .state) (c .before .before .before .before .before .before .args .p .stamp) _ (sym (c .before .before .before .before .before .admit .ensures) ∙ c .before .before .before .d .given .1) .0 in
-    let b = admitted-bounds (c .before .before .before .before .before .before .args .self .state) (c .before .before .before .before .before .before .args .p .stamp) a in
-    (b .0, b .1)
+    let a : stampRefusal real (c .before .before .before .before .before .before .before .before .before .args .self .state) (c .before .before .before .before .before .before .before .before .before .args .p .stamp) ≡ Accepted = admitted (c .before .before .before .before .before .before .before .before .before .args .self .state) (c .before .before .before .before .before .before .before .before .before .args .p .stamp) _ (sym (c .before .before .before .before .before .before .admit .ensures) ∙ c .before .before .before .before .d .given .1) .0 in
+    let b = admitted-bounds (c .before .before .before .before .before .before .before .before .before .args .self .state) (c .before .before .before .before .before .before .before .before .before .args .p .stamp) a in
+    (b .0, (b .1, (c .before .before .before .before .before .before .before .before .force .ensures, c .force2 .ensures)))
 
 key-codes-requires : tie.Need-key-codes-requires
 key-codes-requires c κs = search needs
@@ -61,10 +68,10 @@ accepted-requires c κs = search needs
 returns-3 : tie.Need-returns-3
 unfolding ownRefusal effectOf codesOf
 returns-3 c =
-    let a : stampRefusal real (c .before .before .before .before .before .before .before .before .before .before .before .args .self .state) (c .before .before .before .before .before .before .before .before .before .before .before .args .p .stamp) ≡ Accepted = admitted (c .before .before .before .before .before .before .before .before .before .before .before .args .self .state) (c .before .before .before .before .before .before .before .before .before .before .before .args .p .stamp) _ (sym (c .before .before .before .before .before .before .before .before .before .before .admit .ensures) ∙ c .before .before .before .before .before .before .before .before .d .given .1) .0 in
-    let e = admitted (c .before .before .before .before .before .before .before .before .before .before .before .args .self .state) (c .before .before .before .before .before .before .before .before .before .before .before .args .p .stamp) _ (sym (c .before .before .before .before .before .before .before .before .before .before .admit .ensures) ∙ c .before .before .before .before .before .before .before .before .d .given .1) .1 in
+    let a : stampRefusal real (c .before .before .before .before .before .before .before .before .before .before .before .before .before .before .args .self .state) (c .before .before .before .before .before .before .before .before .before .before .before .before .before .before .args .p .stamp) ≡ Accepted = admitted (c .before .before .before .before .before .before .before .before .before .before .before .before .before .before .args .self .state) (c .before .before .before .before .before .before .before .before .before .before .before .before .before .before .args .p .stamp) _ (sym (c .before .before .before .before .before .before .before .before .before .before .before .admit .ensures) ∙ c .before .before .before .before .before .before .before .before .before .d .given .1) .0 in
+    let e = admitted (c .before .before .before .before .before .before .before .before .before .before .before .before .before .before .args .self .state) (c .before .before .before .before .before .before .before .before .before .before .before .before .before .before .args .p .stamp) _ (sym (c .before .before .before .before .before .before .before .before .before .before .before .admit .ensures) ∙ c .before .before .before .before .before .before .before .before .before .d .given .1) .1 in
     c .accepted .ensures
-    ∙ accepts (c .before .before .before .before .before .before .before .before .before .before .before .args .self .state) (call (c .before .before .before .before .before .before .before .before .before .before .before .args .p)) a (rw (← e, sym (c .before .before .before .before .before .before .key-allowed .ensures) ∙ not-false _ (c .before .before .before .before .before .if1 .left)))
+    ∙ accepts (c .before .before .before .before .before .before .before .before .before .before .before .before .before .before .args .self .state) (call (c .before .before .before .before .before .before .before .before .before .before .before .before .before .before .args .p)) a (rw (← e, sym (c .before .before .before .before .before .before .before .key-allowed .ensures) ∙ not-false _ (c .before .before .before .before .before .before .if1 .left)))
     (rw (c .before .set .ensures, c .before .before .before .before .turn .ensures .0))
     (rw (c .before .before .key-codes .ensures, c .before .before .before .before .turn .ensures .1, c .before .before .before .before .turn .ensures .0))
 
@@ -72,6 +79,7 @@ pub key-spec : {M : Type 1} → statement M
 key-spec =
     tie.close
     (tie.spec
+    force-requires
     admit-requires
     enum-known-d
     enum-told
@@ -80,6 +88,7 @@ key-spec =
     key-allowed-requires
     refused-requires
     returns-2
+    force-requires-2
     turn-requires
     key-codes-requires
     set-requires

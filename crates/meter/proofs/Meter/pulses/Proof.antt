@@ -26,8 +26,8 @@ use Rattle.meter.proofs.Meter.pulses.Tie as tie
 force-requires : tie.Need-force-requires
 force-requires c κs = search needs
 
-admit-on-requires : tie.Need-admit-on-requires
-admit-on-requires c κs = its-some real (c .before .before .args .self .state .slots) (c .before .force .ensures)
+admit-requires : tie.Need-admit-requires
+admit-requires c κs = its-some real (c .before .before .args .self .state .slots) (c .before .force .ensures)
 
 enum-told : tie.Need-enum-told
 enum-told c = search needs
@@ -43,13 +43,13 @@ returns c =
     let s = c .before .before .before .before .before .before in
     let m = s .args .self .state in
     let q = c .before .enum-told2 .given .1 in
-    c .declined .ensures ∙ ap (declinedOf (held m)) q ∙ sym (not-admitted m (call (s .args .p)) _ (sym (c .before .before .before .admit-on .ensures) ∙ q))
+    c .declined .ensures ∙ ap (declinedOf (held m)) q ∙ sym (not-admitted m (call (s .args .p)) _ (sym (c .before .before .before .admit .ensures) ∙ q))
 
 vet-requires : tie.Need-vet-requires
 vet-requires c κs =
     let s = c .before .before .before .before .before in
     let m = s .args .self .state in
-    let a : stampRefusal real m (s .args .p .stamp) ≡ Accepted = admitted m (s .args .p .stamp) _ (sym (c .before .before .admit-on .ensures) ∙ c .enum-told .given .1) .0 in
+    let a : stampRefusal real m (s .args .p .stamp) ≡ Accepted = admitted m (s .args .p .stamp) _ (sym (c .before .before .admit .ensures) ∙ c .enum-told .given .1) .0 in
     total-low real real-laws m (state m (admitted-bounds m (s .args .p .stamp) a .0))
 
 enum-told-3 : tie.Need-enum-told-3
@@ -67,7 +67,7 @@ returns-2 c =
     let s = c .before .before .before .before .before .before .before .before .before in
     let m = s .args .self .state in
     let p = s .args .p in
-    let a : stampRefusal real m (p .stamp) ≡ Accepted = admitted m (p .stamp) _ (sym (c .before .before .before .before .before .before .admit-on .ensures) ∙ c .before .before .before .before .enum-told .given .1) .0 in
+    let a : stampRefusal real m (p .stamp) ≡ Accepted = admitted m (p .stamp) _ (sym (c .before .before .before .before .before .before .admit .ensures) ∙ c .before .before .before .before .enum-told .given .1) .0 in
     let q = c .before .enum-told4 .given .1 in
     c .denied .ensures ∙ ap (deniedOf (held m)) q ∙ sym (own-refused m (call p) _ a (sym (c .before .before .before .vet .ensures) ∙ q))
 
@@ -77,19 +77,19 @@ none-requires c κs = search needs
 force-requires-2 : tie.Need-force-requires-2
 force-requires-2 c κs = search needs
 
-turned-requires : tie.Need-turned-requires
-turned-requires c κs =
+turn-requires : tie.Need-turn-requires
+turn-requires c κs =
     let s = c .before .before .before .before .before .before .before .before .before .before .before .before .before .before in
     let m = s .args .self .state in
-    let a : stampRefusal real m (s .args .p .stamp) ≡ Accepted = admitted m (s .args .p .stamp) _ (sym (c .before .before .before .before .before .before .before .before .before .before .before .admit-on .ensures) ∙ c .before .before .before .before .before .before .before .before .before .enum-told .given .1) .0 in
+    let a : stampRefusal real m (s .args .p .stamp) ≡ Accepted = admitted m (s .args .p .stamp) _ (sym (c .before .before .before .before .before .before .before .before .before .before .before .admit .ensures) ∙ c .before .before .before .before .before .before .before .before .before .enum-told .given .1) .0 in
     let b = admitted-bounds m (s .args .p .stamp) a in
-    (b .0, (b .1, (c .before .if1 .taken, (c .before .before .before .before .before .before .before .before .before .before .before .before .before .force .ensures, c .force2 .ensures))))
+    (b .0, (b .1, (c .before .before .before .before .before .before .before .before .before .before .before .before .before .force .ensures, c .force2 .ensures)))
 
 -- the stamp is admitted
 stamped : (c : tie.Joined1) → stampRefusal real (c .before .before .before .before .before .before .before .before .before .before .before .before .before .args .self .state) (c .before .before .before .before .before .before .before .before .before .before .before .before .before .args .p .stamp) ≡ Accepted
 stamped c =
     let s = c .before .before .before .before .before .before .before .before .before .before .before .before .before in
-    admitted (s .args .self .state) (s .args .p .stamp) _ (sym (c .before .before .before .before .before .before .before .before .before .before .admit-on .ensures) ∙ c .before .before .before .before .before .before .before .before .enum-told .given .1) .0
+    admitted (s .args .self .state) (s .args .p .stamp) _ (sym (c .before .before .before .before .before .before .before .before .before .before .admit .ensures) ∙ c .before .before .before .before .before .before .before .before .enum-told .given .1) .0
 
 -- whether the day turned or not, the state is the turned one but for its clock, the codes are those of the turn, and the slot is that in
 -- force on the stamp's date
@@ -105,14 +105,14 @@ met c =
     let s = c .before .before .before .before .before .before .before .before .before .before .before .before .before .args .p .stamp in
     ⊎-elim
     (λ w. record {
-      state = ap (λ (x : State). withClock x s) (w .6 ∙ w .2 .ensures .0) ∙ clock-set m s;
-      codes = w .7 ∙ w .2 .ensures .1;
-      force = w .5 ∙ w .1 .ensures ∙ later-force m s;
+      state = ap (λ (x : State). withClock x s) (w .5 ∙ w .2 .ensures .0) ∙ clock-set m s;
+      codes = w .6 ∙ w .2 .ensures .1;
+      force = w .7 ∙ w .1 .ensures ∙ later-force m s;
     })
     (λ w. record {
-      state = ap (λ (x : State). withClock x s) (w .2) ∙ sym (same-day m s (w .0 .left));
-      codes = w .3 ∙ c .before .before .before .none .ensures ∙ sym (ap (noteAll noCodes) (same-day-codes m s (w .0 .left)));
-      force = w .1 ∙ c .before .before .before .before .before .before .before .before .before .before .before .before .force .ensures ∙ same-force m s (stamped c) (w .0 .left);
+      state = ap (λ (x : State). withClock x s) (w .1) ∙ sym (same-day m s (w .0 .left));
+      codes = w .2 ∙ c .before .before .before .none .ensures ∙ sym (ap (noteAll noCodes) (same-day-codes m s (w .0 .left)));
+      force = w .3 ∙ c .before .before .before .before .before .before .before .before .before .before .before .before .force .ensures ∙ same-force m s (stamped c) (w .0 .left);
     })
     (c .if1 .came)
 
@@ -144,7 +144,7 @@ pulses-spec =
     tie.close
     (tie.spec
     force-requires
-    admit-on-requires
+    admit-requires
     enum-told
     enum-told-2
     declined-requires
@@ -156,7 +156,7 @@ pulses-spec =
     returns-2
     none-requires
     force-requires-2
-    turned-requires
+    turn-requires
     pulsed-requires
     accepted-requires
     returns-3)

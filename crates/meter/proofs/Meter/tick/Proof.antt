@@ -3,6 +3,7 @@ use mathlib.Core.Path.{_≡_, refl, sym, ap, _∙_}
 use Rattle.account.specs.Codes.{noteAll}
 use Rattle.answer.specs.declared.Answer.the-variants.{Accepted}
 use Rattle.slots.specs.World.{real}
+use Rattle.slots.proofs.InForce.{its-some}
 use Rattle.meter.specs.Machine.{declinedOf, deniedOf}
 use Rattle.meter.specs.Call.{tick as call}
 use Rattle.state.specs.Refusals.{stampRefusal}
@@ -14,8 +15,11 @@ use borrow.Author.Needs.{needs}
 use Rattle.meter.proofs.Meter.tick.Statement.{statement}
 use Rattle.meter.proofs.Meter.tick.Tie as tie
 
+force-requires : tie.Need-force-requires
+force-requires c κs = search needs
+
 admit-requires : tie.Need-admit-requires
-admit-requires c κs = search needs
+admit-requires c κs = its-some real (c .before .before .args .self .state .slots) (c .before .force .ensures)
 
 enum-told : tie.Need-enum-told
 enum-told c = search needs
@@ -27,13 +31,16 @@ declined-requires : tie.Need-declined-requires
 declined-requires c κs = search needs
 
 returns : tie.Need-returns
-returns c = c .declined .ensures ∙ ap (declinedOf (held (c .before .before .before .before .args .self .state))) (c .before .enum-told2 .given .1) ∙ sym (not-admitted (c .before .before .before .before .args .self .state) (call (c .before .before .before .before .args .p)) _ (sym (c .before .before .before .admit .ensures) ∙ c .before .enum-told2 .given .1))
+returns c = c .declined .ensures ∙ ap (declinedOf (held (c .before .before .before .before .before .before .args .self .state))) (c .before .enum-told2 .given .1) ∙ sym (not-admitted (c .before .before .before .before .before .before .args .self .state) (call (c .before .before .before .before .before .before .args .p)) _ (sym (c .before .before .before .admit .ensures) ∙ c .before .enum-told2 .given .1))
+
+force-requires-2 : tie.Need-force-requires-2
+force-requires-2 c κs = search needs
 
 turn-requires : tie.Need-turn-requires
 turn-requires c κs =
-    let a : stampRefusal real (c .before .before .before .args .self .state) (c .before .before .before .args .p .stamp) ≡ Accepted = admitted (c .before .before .before .args .self .state) (c .before .before .before .args .p .stamp) _ (sym (c .before .before .admit .ensures) ∙ c .enum-told .given .1) .0 in
-    let b = admitted-bounds (c .before .before .before .args .self .state) (c .before .before .before .args .p .stamp) a in
-    (b .0, b .1)
+    let a : stampRefusal real (c .before .before .before .before .before .before .args .self .state) (c .before .before .before .before .before .before .args .p .stamp) ≡ Accepted = admitted (c .before .before .before .before .before .before .args .self .state) (c .before .before .before .before .before .before .args .p .stamp) _ (sym (c .before .before .before .admit .ensures) ∙ c .before .enum-told .given .1) .0 in
+    let b = admitted-bounds (c .before .before .before .before .before .before .args .self .state) (c .before .before .before .before .before .before .args .p .stamp) a in
+    (b .0, (b .1, (c .before .before .before .before .before .force .ensures, c .force2 .ensures)))
 
 accepted-requires : tie.Need-accepted-requires
 accepted-requires c κs = search needs
@@ -41,18 +48,20 @@ accepted-requires c κs = search needs
 returns-2 : tie.Need-returns-2
 unfolding ownRefusal effectOf codesOf noteAll
 returns-2 c =
-    let a : stampRefusal real (c .before .before .before .before .before .args .self .state) (c .before .before .before .before .before .args .p .stamp) ≡ Accepted = admitted (c .before .before .before .before .before .args .self .state) (c .before .before .before .before .before .args .p .stamp) _ (sym (c .before .before .before .before .admit .ensures) ∙ c .before .before .enum-told .given .1) .0 in
-    c .accepted .ensures ∙ accepts (c .before .before .before .before .before .args .self .state) (call (c .before .before .before .before .before .args .p)) a refl (c .before .turn .ensures .0) (c .before .turn .ensures .1)
+    let a : stampRefusal real (c .before .before .before .before .before .before .before .before .args .self .state) (c .before .before .before .before .before .before .before .before .args .p .stamp) ≡ Accepted = admitted (c .before .before .before .before .before .before .before .before .args .self .state) (c .before .before .before .before .before .before .before .before .args .p .stamp) _ (sym (c .before .before .before .before .before .admit .ensures) ∙ c .before .before .before .enum-told .given .1) .0 in
+    c .accepted .ensures ∙ accepts (c .before .before .before .before .before .before .before .before .args .self .state) (call (c .before .before .before .before .before .before .before .before .args .p)) a refl (c .before .turn .ensures .0) (c .before .turn .ensures .1)
 
 pub tick-spec : {M : Type 1} → statement M
 tick-spec =
     tie.close
     (tie.spec
+    force-requires
     admit-requires
     enum-told
     enum-told-2
     declined-requires
     returns
+    force-requires-2
     turn-requires
     accepted-requires
     returns-2)
