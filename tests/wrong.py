@@ -11,7 +11,7 @@ Edits of the bodies of different functions share one run: a function is proved b
 and a body changes no contract. Such an edit counts if a declaration in the proof of its own function is refused, and not only
 because a function that it calls is not proved. Every other edit, of a definition or a contract, has a run to itself.
 
-Three runs go on at a time. A line for each edit, with the place of the first error; target/wrong/CRATE/ has the logs. The
+As many runs go on at a time as there are processors. A line for each edit, with the place of the first error; target/wrong/CRATE/ has the logs. The
 last line counts them.
 """
 import concurrent.futures
@@ -168,7 +168,7 @@ if __name__ == '__main__':
     BUILT = built()
     runs = sorted((run for crate in crates for run in runs_of(crate)), key=len, reverse=True)
     wanted, refused = sum(map(len, runs)), 0
-    with open(os.path.join(ALL, 'all.txt'), 'w', encoding='utf-8') as out, concurrent.futures.ThreadPoolExecutor(3) as pool:
+    with open(os.path.join(ALL, 'all.txt'), 'w', encoding='utf-8') as out, concurrent.futures.ThreadPoolExecutor(os.cpu_count()) as pool:
         for made in concurrent.futures.as_completed([pool.submit(tried, number, run) for number, run in enumerate(runs)]):
             for line in made.result():
                 refused += 'refused, as it must be' in line
