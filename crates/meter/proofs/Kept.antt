@@ -43,6 +43,7 @@ use Rattle.meter.specs.Call.{Call, pulses, recharge, load, alarms, comma
 use Rattle.meter.specs.Refusals.{ownRefusal, refusalOf}
 use Rattle.meter.specs.Effects.{effectOf}
 use Rattle.meter.specs.Machine.{after}
+use Rattle.meter.proofs.Outcomes.{refusal-own}
 
 module _ (w : World) (L : Laws w) where
   -- a load
@@ -205,8 +206,8 @@ module _ (w : World) (L : Laws w) where
 
   -- and the other way
   pub pass : (m : State) (c : Call) → Passed m c → refusalOf w m c ≡ Accepted
-  unfolding refusalOf stampRefusal
-  pass m c p = rw (p .bounds, p .stamp, p .onward) (p .own)
+  unfolding stampRefusal
+  pass m c p = refusal-own w m c (rw (p .bounds, p .stamp, p .onward)) ∙ p .own
 
   pub stamp-date : (s : Stamp) → stampGood w s ≡ true → w .date (s .date) ≡ true
   unfolding stampGood

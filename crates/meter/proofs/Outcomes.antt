@@ -8,7 +8,7 @@ use Rattle.calendar.specs.declared.Dated.the-variants.{On, Refused as Off}
 use Rattle.account.specs.declared.Codes.{Codes}
 use Rattle.account.specs.Codes.{noCodes, noteAll}
 use Rattle.account.proofs.Notes.{note-append}
-use Rattle.slots.specs.World.{real}
+use Rattle.slots.specs.World.{World, real}
 use Rattle.state.specs.declared.State.{State}
 use Rattle.state.specs.Turn.{turn, turnCodes}
 use Rattle.state.specs.Refusals.{stampRefusal, datedBy}
@@ -42,10 +42,10 @@ pub taken : (s : State) (c : Call) → stampRefusal real s (stampOf c) ≡ Accep
 unfolding outcome left given refusalOf noteAll
 taken s c h k = rw (h, k)
 
--- the refusal of a call whose stamp is admitted is its own
-pub refusal-own : (s : State) (c : Call) → stampRefusal real s (stampOf c) ≡ Accepted → refusalOf real s c ≡ ownRefusal real s c
+-- the refusal of a call whose stamp is admitted is its own, in any world
+pub refusal-own : (w : World) (s : State) (c : Call) → stampRefusal w s (stampOf c) ≡ Accepted → refusalOf w s c ≡ ownRefusal w s c
 unfolding refusalOf
-refusal-own s c h = rw h
+refusal-own w s c h = rw h
 
 -- an accepted call whose state is the effect on the turned state, and whose codes are noted behind those of the turn
 pub accepts : (s : State) (c : Call) {n : State} {k : Codes} → stampRefusal real s (stampOf c) ≡ Accepted → ownRefusal real s c ≡ Accepted →
