@@ -1,11 +1,10 @@
-// Times the C library (target/staticlib/libhost.a) beside the same work in plain Rust:
+// Times the C library (target/staticlib/libhost.a) beside the same work in plain Rust, both on a meter where it lies:
 //
-//   core RECORDS          a table of nanoseconds
+//   core RECORDS          a line for each row: its name, nanoseconds of the library, of plain Rust
 //   core RECORDS NAME N   NAME once with N calls, for a count of instructions
 //
-// RECORDS is a file of 66-byte records. bench/core.sh builds and runs it.
+// RECORDS is a file of 66-byte records. bench/core.py builds and runs it.
 use std::hint::black_box;
-use std::time::Instant;
 
 #[allow(dead_code)]
 #[path = "../tests/model/calls.rs"]
@@ -47,11 +46,8 @@ fn plain_read(s: &[u8]) -> u32 {
 }
 
 #[inline(never)]
-fn plain_write(s: &[u8], out: &mut [u8]) -> u8 {
-    match printer::read(s).and_then(|p| meter::write(&p, out)) {
-        Ok(()) => 0,
-        Err(_) => 1,
-    }
+fn plain_write(p: &printer::Plan, out: &mut [u8]) -> u8 {
+    meter::write(p, out).is_err() as u8
 }
 
 fn aged(turns: u32) -> Meter {
@@ -105,7 +101,7 @@ fn proved_started() -> library::Meter {
     ];
     let mut m = library::fresh();
     for call in &calls {
-        assert_eq!(library::run(&mut m, call).accepted, 1);
+        assert_eq!(library::run_lent(&mut m, call).accepted, 1);
     }
     m
 }
@@ -113,7 +109,7 @@ fn proved_started() -> library::Meter {
 fn proved_aged(turns: u32) -> library::Meter {
     let mut m = proved_started();
     for i in 1..=turns {
-        library::run(&mut m, &Call::Tick { stamp: black_box(at(i)) });
+        library::run_lent(&mut m, &Call::Tick { stamp: black_box(at(i)) });
     }
     m
 }
@@ -122,7 +118,7 @@ fn proved_pulsed(turns: u32, n: u32) -> library::Meter {
     let mut m = proved_aged(turns);
     for _ in 0..n {
         let stamp = black_box(at(turns));
-        library::run(&mut m, &Call::Pulses { stamp, count: black_box(1) });
+        library::run_lent(&mut m, &Call::Pulses { stamp, count: black_box(1) });
     }
     m
 }
@@ -136,12 +132,15 @@ fn proved_read(s: &[u8]) -> u32 {
     library::plan_read(s).plan.start
 }
 
-fn proved_write(s: &[u8], out: &mut [u8]) -> u8 {
-    let r = library::plan_read(s);
-    if r.accepted == 0 {
-        return 1;
-    }
-    1 - library::plan_write(r.plan, out).accepted
+fn proved_write(p: &library::Plan, out: &mut [u8]) -> u8 {
+    1 - library::plan_write(*p, out).accepted
+}
+
+// The plans of the records that are not refused, for each side.
+fn plans(records: &[u8]) -> (Vec<library::Plan>, Vec<printer::Plan>) {
+    let all = records.chunks_exact(RECORD);
+    let proved = all.clone().map(library::plan_read).filter(|r| r.accepted == 1).map(|r| r.plan).collect();
+    (proved, all.filter_map(|s| printer::read(s).ok()).collect())
 }
 
 // A sum of what n calls answer; the record of each is the next of the file.
@@ -157,12 +156,15 @@ fn read_all(proved: bool, records: &[u8], n: u32) -> u64 {
 }
 
 fn write_all(proved: bool, records: &[u8], n: u32) -> u64 {
+    let (ours, plain) = plans(records);
+    assert_eq!(ours.len(), plain.len());
     let mut out = [0u8; RECORD];
     let mut sum = 0;
-    for s in records.chunks_exact(RECORD).cycle().take(n as usize) {
+    for i in 0..n as usize {
+        let k = i % plain.len();
         sum += match proved {
-            true => proved_write(s, &mut out),
-            false => plain_write(s, &mut out),
+            true => proved_write(&ours[k], &mut out),
+            false => plain_write(&plain[k], &mut out),
         } as u64;
         black_box(&out);
     }
@@ -187,36 +189,49 @@ fn run(name: &str, proved: bool, records: &[u8], n: u32) -> u64 {
     }
 }
 
-// Nanoseconds of a call: the best of some runs with n calls, less the best with none.
-fn each(name: &str, records: &[u8], n: u32, runs: u32) -> [f64; 2] {
-    let mut best = [[f64::MAX; 2]; 2];
-    for _ in 0..runs {
+#[repr(C)]
+struct Timespec {
+    seconds: i64,
+    nanoseconds: i64,
+}
+
+extern "C" {
+    fn clock_gettime(clock: i32, at: *mut Timespec) -> i32;
+}
+
+// Processor time of this process, in nanoseconds.
+fn spent() -> f64 {
+    const PROCESS: i32 = 2;
+    let mut t = Timespec { seconds: 0, nanoseconds: 0 };
+    assert_eq!(unsafe { clock_gettime(PROCESS, &mut t) }, 0);
+    t.seconds as f64 * 1e9 + t.nanoseconds as f64
+}
+
+const ROUNDS: u32 = 12;
+
+// Nanoseconds of a call on each side: the least of the rounds with n calls, less the least with none.
+fn each(name: &str, records: &[u8], n: u32) -> [f64; 2] {
+    let mut least = [[f64::MAX; 2]; 2];
+    for _ in 0..ROUNDS {
         let mut seen = [0; 2];
         for (side, proved) in [true, false].into_iter().enumerate() {
             for (k, calls) in [0, n].into_iter().enumerate() {
-                let begun = Instant::now();
+                let begun = spent();
                 seen[side] = black_box(run(name, proved, records, black_box(calls)));
-                best[side][k] = best[side][k].min(begun.elapsed().as_nanos() as f64);
+                least[side][k] = least[side][k].min(spent() - begun);
             }
         }
         assert_eq!(seen[0], seen[1], "{name}: the two differ");
     }
-    best.map(|b| (b[1] - b[0]) / n as f64)
-}
-
-fn line(what: &str, [proved, plain]: [f64; 2]) {
-    println!(
-        "{what:<58} {proved:>9.1} {plain:>9.1} {:>6.2}",
-        proved / plain
-    );
+    least.map(|b| (b[1] - b[0]) / n as f64)
 }
 
 fn same_bytes(records: &[u8]) {
-    for s in records.chunks_exact(RECORD) {
+    let (ours, plain) = plans(records);
+    for (p, q) in ours.iter().zip(&plain) {
         let mut outs = [[7u8; RECORD]; 2];
         let [a, b] = &mut outs;
-        let one = proved_write(s, a);
-        assert_eq!(one, plain_write(s, b));
+        assert_eq!(proved_write(p, a), plain_write(q, b));
         assert_eq!(outs[0], outs[1]);
     }
 }
@@ -241,27 +256,17 @@ fn main() {
     }
     same_bytes(&records);
     same_balances();
-    println!(
-        "{:<58} {:>9} {:>9} {:>6}",
-        "nanoseconds a call", "Rattle", "plain", "ratio"
-    );
-    let read = each("read", &records, 1_000_000, 7);
-    let both = each("write", &records, 1_000_000, 7);
-    line("read a record", read);
-    line("read and write a record", both);
-    line(
-        "write a record (the difference)",
-        [both[0] - read[0], both[1] - read[1]],
-    );
-    for (what, name, calls, runs) in [
-        ("pulse call, no record held", "pulses", 200_000, 7),
-        ("pulse call, 62 day and 2 month records", "pulses-62", 200_000, 7),
-        ("pulse call, 62 and 120 records, no plan in force", "pulses-4000", 100_000, 7),
-        ("day turn, the first 300 (Plan A in force)", "turns", 300, 200),
-        ("day turn, mean of 26,000 (records full from 3,360 on)", "turns", 26_000, 7),
-        ("display query (a bounds test), 62 day and 2 month records", "display-62", 200_000, 7),
-        ("display query (a bounds test), 62 and 120 records", "display-4000", 100_000, 7),
+    for (name, calls) in [
+        ("read", 500_000),
+        ("write", 500_000),
+        ("pulses", 500_000),
+        ("pulses-62", 200_000),
+        ("pulses-4000", 100_000),
+        ("turns", 26_000),
+        ("display-62", 200_000),
+        ("display-4000", 100_000),
     ] {
-        line(what, each(name, &records, calls, runs));
+        let [proved, plain] = each(name, &records, calls);
+        println!("{name} {proved:.1} {plain:.1}");
     }
 }

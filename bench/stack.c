@@ -1,6 +1,6 @@
 /*
  * The stack that each call takes: it runs in a thread whose stack was filled with a pattern, and the deepest byte that
- * changed is looked for. An empty call is measured too and taken off. Built and run by bench/stack.sh.
+ * changed is looked for. An empty call is measured too and taken off. Built and run by bench/core.py.
  */
 #define _GNU_SOURCE
 #include <pthread.h>
@@ -67,6 +67,34 @@ static void *display(void *p) {
     return p;
 }
 
+static void *step(void *p) {
+    harpdapple_step(&meter);
+    return p;
+}
+
+static void *day(void *p) {
+    harpdapple_day(&meter, 0);
+    return p;
+}
+
+static void *heavy(void *p) {
+    harpdapple_heavy(&meter, 1);
+    return p;
+}
+
+static void *plan_read(void *p) {
+    harpdapple_plan_read(plan_a, sizeof plan_a);
+    return p;
+}
+
+static struct harpdapple_plan plan;
+
+static void *plan_write(void *p) {
+    uint8_t out[HARPDAPPLE_RECORD_BYTES];
+    harpdapple_plan_write(plan, out, sizeof out);
+    return p;
+}
+
 static size_t used(void *(*call)(void *)) {
     unsigned char *stack = aligned_alloc(4096, STACK);
     pthread_attr_t attr;
@@ -88,19 +116,28 @@ int main(void) {
     static const struct {
         const char *name;
         void *(*call)(void *);
-    } calls[] = {{"pulse call, same day", pulses},   {"pulse call, new month", turning_pulses},
-                 {"recharge", recharge},             {"load of a plan", load},
-                 {"alarms", alarms},                 {"command", command},
-                 {"key", key},                       {"tick", tick},
-                 {"display", display}};
+    } calls[] = {{"pulse call, same day", pulses},
+                 {"pulse call, new month", turning_pulses},
+                 {"recharge, new month", recharge},
+                 {"load of a plan, new month", load},
+                 {"alarms, new month", alarms},
+                 {"command, new month", command},
+                 {"key, new month", key},
+                 {"tick, new month", tick},
+                 {"display query", display},
+                 {"step query", step},
+                 {"day record query", day},
+                 {"heavy day query", heavy},
+                 {"read of a plan record", plan_read},
+                 {"write of a plan record", plan_write}};
     size_t none = used(nothing);
 
-    printf("a meter has %zu bytes\n", sizeof meter);
+    plan = harpdapple_plan_read(plan_a, sizeof plan_a).plan;
     for (size_t i = 0; i < sizeof calls / sizeof calls[0]; i++) {
         meter = harpdapple_fresh();
         harpdapple_load(&meter, (struct harpdapple_load_call){today, 1}, plan_a, sizeof plan_a);
         harpdapple_recharge(&meter, (struct harpdapple_recharge_call){today, 1000000, 1});
-        printf("%-24s %6zu bytes of stack\n", calls[i].name, used(calls[i].call) - none);
+        printf("%s %zu\n", calls[i].name, used(calls[i].call) - none);
     }
     return 0;
 }

@@ -293,7 +293,8 @@ pub fn run(meter: &mut Meter, call: &Call) -> Reply {
     reply
 }
 
-fn run_lent(meter: *mut Meter, call: &Call) -> Reply {
+/// The call on the meter where it lies, with no guard bytes and no copy: what a host does.
+pub fn run_lent(meter: *mut Meter, call: &Call) -> Reply {
     unsafe {
         match *call {
             Call::Pulses { stamp, count } => harpdapple_pulses(meter, PulsesCall { stamp, count }),

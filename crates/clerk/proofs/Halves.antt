@@ -5,7 +5,8 @@ use Prim.Native.Nat.{ℕ}
 use lib.ListN.{take}
 use types.Run.{OneOf, miss}
 use denote.Enum.Declared.{tagOf}
-use Rattle.meter.specs.declared.Meter.{Meter}
+use Rattle.state.specs.State.{State}
+use Rattle.meter.specs.Machine.{stateIn}
 use Rattle.meter.specs.declared.Done.{Done}
 use Rattle.desk.specs.declared.Desk.{Desk}
 use Rattle.desk.specs.declared.Played.{Played}
@@ -43,7 +44,7 @@ no-call d bytes Show h = refl
 no-call d bytes (Wrong k) h = refl
 no-call d bytes Nothing h = refl
 
-pub call-said : (m : Meter) (number : ℕ) (done : Done) (o : Order) → OneOf calls (tagOf the-type o) → Said m number o done (callLine done)
+pub call-said : (m : State) (number : ℕ) (done : Done) (o : Order) → OneOf calls (tagOf the-type o) → Said m number o done (callLine done)
 unfolding Said
 call-said m number done (Pulses p) h = refl
 call-said m number done (Recharge p) h = refl
@@ -64,6 +65,6 @@ call-said m number done Nothing h = absurd (miss calls _ tt h)
 pub worked : (d : Desk) (number : ℕ) (line room₀ : List ℕ) {o : Order} {room : List ℕ} {p : Played}
     → o ≡ orderOf line → room ≡ startingWith (recordOf line) room₀ → p ≡ playedBy d o (take (sizeOf o) room)
     → (p .desk ≡ deskAfter d (orderOf line) (recordOf line))
-    × ((text : List ℕ) → Said (d .meter) number o (p .done) text → Answers d number (orderOf line) (recordOf line) text)
+    × ((text : List ℕ) → Said (stateIn (d .meter)) number o (p .done) text → Answers d number (orderOf line) (recordOf line) text)
 worked d number line room₀ {o} {room} {p} e f g =
     rw (g, kept line room₀ e f, ← e) (refl, λ text s. s)

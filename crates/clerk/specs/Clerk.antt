@@ -4,9 +4,10 @@ use mathlib.Core.List.{List, []}
 use Prim.Native.Nat.{ℕ}
 use Rattle.answer.specs.declared.Answer.the-variants.{Accepted}
 use Rattle.account.specs.Codes.{noCodes}
-use Rattle.journal.specs.declared.Heavy.{Heavy as HeavyFound}
-use Rattle.meter.specs.declared.Meter.{Meter}
+use Rattle.records.specs.declared.Heavy.{Heavy as HeavyFound}
+use Rattle.state.specs.State.{State}
 use Rattle.meter.specs.declared.Done.{Done}
+use Rattle.meter.specs.Machine.{stateIn}
 use Rattle.meter.specs.Call.{pulses, recharge, load, alarms, command, key, tick}
 use Rattle.query.specs.Queries.{stepAnswer, displayAnswer, dayAnswer, monthAnswer, HeavyAnswer}
 use Rattle.desk.specs.declared.Desk.{Desk}
@@ -42,7 +43,7 @@ playedBy d Nothing bytes = idle d
 
 -- the text that answers line `number`, from the meter before it and what a call did: a call's line, the query's, or what is
 -- wrong; nothing for a line that says nothing. Which heavy day is named is left free, as the query leaves it.
-unfoldable pub Said : Meter → ℕ → Order → Done → List ℕ → Type 0
+unfoldable pub Said : State → ℕ → Order → Done → List ℕ → Type 0
 Said m number (Pulses p) done text = text ≡ callLine done
 Said m number (Recharge p) done text = text ≡ callLine done
 Said m number (Load p n) done text = text ≡ callLine done
@@ -65,7 +66,7 @@ deskAfter d o bytes = playedBy d o bytes .desk
 
 -- the text that answers it
 abbrev pub Answers : Desk → ℕ → Order → List ℕ → List ℕ → Type 0
-Answers d number o bytes text = Said (d .meter) number o (playedBy d o bytes .done) text
+Answers d number o bytes text = Said (stateIn (d .meter)) number o (playedBy d o bytes .done) text
 
 -- how many bytes a plan's record has; any other line has none
 abbrev pub sizeOf : Order → ℕ

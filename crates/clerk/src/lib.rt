@@ -5,14 +5,16 @@ use answer::Answer;
 use desk::Desk;
 use desk::Played;
 use meter::Done;
-use meter::Meter;
+use records::held::Words;
 use script::Order;
+use state::Registers;
 ghost use mathlib.Core.Path.{_≡_};
 ghost use mathlib.Core.List.{List};
 ghost use Prim.Native.Nat.{ℕ, _*_, _≤_};
 ghost use lib.ListN.{length, take};
 ghost use Rattle.text.specs.Decimal.{startingWith};
 ghost use Rattle.script.specs.Orders.{orderOf, recordOf};
+ghost use Rattle.state.specs.State.{stateOf};
 ghost use Rattle.clerk.specs.Clerk.{playedBy, Said, deskAfter, Answers, sizeOf};
 
 // The desk after a line, and the length of the answer.
@@ -55,17 +57,24 @@ fn called(desk: Desk, order: Order, room: &[u8]) -> Played
 
 // The answer to a question on the meter, to a line that is wrong, to one that says nothing, and to a
 // call by what it did.
-fn answered(m: Meter, number: u64, order: Order, done: Done, out: &mut [u8]) -> usize
+fn answered(
+    m: Registers,
+    words: &Words,
+    number: u64,
+    order: Order,
+    done: Done,
+    out: &mut [u8],
+) -> usize
     requires { ⌜ 320 ≤ length (now out) ⌝ }
-    ensures { λ r. ⌜ (r ≤ 320) × ((text : List ℕ) × Said m number order done text × (r ≡ length text) × (now (out .exit) ≡ startingWith text (now (out .entry)))) ⌝ }
+    ensures { λ r. ⌜ (r ≤ 320) × ((text : List ℕ) × Said (stateOf m (now (words .entry))) number order done text × (r ≡ length text) × (now (out .exit) ≡ startingWith text (now (out .entry)))) ⌝ }
 {
     match order {
-        Order::Step => report::step_line(query::step(m), out),
-        Order::Display => report::display_line(query::display(m), out),
-        Order::Day(k) => report::record_line(query::day(m, k), out),
-        Order::Month(k) => report::record_line(query::month(m, k), out),
-        Order::Heavy(v) => report::heavy_line(query::heavy(m, v), out),
-        Order::Show => showing::show(m, out),
+        Order::Step => report::step_line(query::step(m, words), out),
+        Order::Display => report::display_line(query::display(m, words), out),
+        Order::Day(k) => report::record_line(query::day(m, words, k), out),
+        Order::Month(k) => report::record_line(query::month(m, words, k), out),
+        Order::Heavy(v) => report::heavy_line(query::heavy(m, words, v), out),
+        Order::Show => showing::show(m, words, out),
         Order::Wrong(k) => report::error_line(number, k, out),
         Order::Nothing => 0,
         _ => report::call_line(done, out),
@@ -83,9 +92,16 @@ pub fn work(desk: Desk, number: u64, line: &[u8], room: &mut [u8], out: &mut [u8
 {
     let order = script::parse(line, room);
     let p = called(desk, order, room);
-    let m = desk.meter;
+    let held = desk.meter.held;
     let done = p.done;
     let left = p.desk;
-    let length = answered(m, number, order, done, out);
+    let length = answered(
+        desk.meter.machine.registers,
+        &held,
+        number,
+        order,
+        done,
+        out,
+    );
     Worked { desk: left, length }
 }

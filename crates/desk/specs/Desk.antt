@@ -4,10 +4,8 @@ use mathlib.Core.Path.{_≡_}
 use mathlib.Core.List.{List, [], _∷_}
 use lib.IntN.{pos, _-ℤ_}
 use Rattle.answer.specs.Answer.{isAccepted}
-use Rattle.meter.specs.declared.Outcome.{Outcome}
-use Rattle.state.specs.State.{fresh}
 use Rattle.meter.specs.Call.{Call}
-use Rattle.meter.specs.Machine.{outcome}
+use Rattle.meter.specs.Machine.{Left, freshMeter, outcome}
 use Rattle.book.specs.declared.Book.{Book}
 use Rattle.book.specs.Book.{blankBook, bookSum}
 use Rattle.book.specs.Kept.{fedBook}
@@ -15,10 +13,10 @@ use Rattle.desk.specs.declared.Desk.{Desk}
 use Rattle.desk.specs.declared.Played.{Played}
 
 unfoldable pub newDesk : Desk
-newDesk = record { meter = record { state = fresh }; book = blankBook }
+newDesk = record { meter = freshMeter; book = blankBook }
 
-abbrev pub ranBy : Outcome → Book → Played
-ranBy o b = record { desk = record { meter = o .meter; book = b }; done = o .done }
+abbrev pub ranBy : Left → Book → Played
+ranBy l b = record { desk = record { meter = l .meter; book = b }; done = l .done }
 
 -- a call runs on the meter; the ledger is told its arguments where it was accepted
 unfoldable pub played : Desk → Call → Played
@@ -31,7 +29,7 @@ deskOf d (c ∷ cs) = deskOf (played d c .desk) cs
 
 -- the ledger's sum is recharges minus balance, whatever was played
 abbrev pub Agrees : Desk → Type 0
-Agrees d = pos (d .book .recharged .0) -ℤ d .meter .state .account .balance .0 ≡ pos (bookSum (d .book))
+Agrees d = pos (d .book .recharged .0) -ℤ d .meter .machine .registers .account .balance .0 ≡ pos (bookSum (d .book))
 
 abbrev pub AlwaysAgrees : Type 0
 AlwaysAgrees = (cs : List Call) → Agrees (deskOf newDesk cs)

@@ -11,9 +11,11 @@ use meter::Outcome;
 use meter::Pulses;
 use meter::Recharge;
 use meter::Tick;
+use records::held::Words;
 ghost use mathlib.Core.Path.{_≡_};
 ghost use Rattle.meter.specs.Call.{pulses as pulsesCall, recharge as rechargeCall, load as loadCall, alarms as alarmsCall, command as commandCall, key as keyCall, tick as tickCall};
 ghost use Rattle.desk.specs.Desk.{newDesk, ranBy, played};
+ghost use Rattle.meter.specs.Machine.{leftBy};
 
 pub struct Desk {
     pub meter: Meter,
@@ -38,13 +40,16 @@ impl Desk {
     }
 
     // What a call left, with the ledger given.
-    fn ran(o: Outcome, book: Book) -> Played
-        ensures { λ r. ⌜ r ≡ ranBy o book ⌝ }
+    fn ran(o: Outcome, held: Words, book: Book) -> Played
+        ensures { λ r. ⌜ r ≡ ranBy (leftBy o held) book ⌝ }
     {
-        let meter = o.meter;
+        let machine = o.machine;
         let done = o.done;
         Played {
-            desk: Desk { meter, book },
+            desk: Desk {
+                meter: Meter { machine, held },
+                book,
+            },
             done,
         }
     }
@@ -52,60 +57,71 @@ impl Desk {
     pub fn pulses(self, p: Pulses) -> Played
         ensures { λ r. ⌜ r ≡ played self (pulsesCall p) ⌝ }
     {
-        let o = self.meter.pulses(p);
+        let mut held = self.meter.held;
+        let o = self.meter.machine.pulses(&mut held, p);
         let d = o.done;
         let a = d.answer;
         if a.accepted() {
-            return Desk::ran(o, self.book.pulsed(p.stamp.date, p.count));
+            return Desk::ran(o, held, self.book.pulsed(p.stamp.date, p.count));
         }
-        Desk::ran(o, self.book)
+        Desk::ran(o, held, self.book)
     }
 
     pub fn recharge(self, p: Recharge) -> Played
         ensures { λ r. ⌜ r ≡ played self (rechargeCall p) ⌝ }
     {
-        let o = self.meter.recharge(p);
+        let mut held = self.meter.held;
+        let o = self.meter.machine.recharge(&mut held, p);
         let d = o.done;
         let a = d.answer;
         if a.accepted() {
-            return Desk::ran(o, self.book.recharged(p.amount));
+            return Desk::ran(o, held, self.book.recharged(p.amount));
         }
-        Desk::ran(o, self.book)
+        Desk::ran(o, held, self.book)
     }
 
     pub fn load(self, p: Load, bytes: &[u8]) -> Played
         ensures { λ r. ⌜ r ≡ played self (loadCall p (now (bytes .entry))) ⌝ }
     {
-        let o = self.meter.load(p, bytes);
+        let mut held = self.meter.held;
+        let o = self.meter.machine.load(&mut held, p, bytes);
         let d = o.done;
         let a = d.answer;
         if a.accepted() {
-            return Desk::ran(o, self.book.loaded(p.slot, bytes));
+            return Desk::ran(o, held, self.book.loaded(p.slot, bytes));
         }
-        Desk::ran(o, self.book)
+        Desk::ran(o, held, self.book)
     }
 
     pub fn alarms(self, p: Alarms) -> Played
         ensures { λ r. ⌜ r ≡ played self (alarmsCall p) ⌝ }
     {
-        Desk::ran(self.meter.alarms(p), self.book)
+        let mut held = self.meter.held;
+        let o = self.meter.machine.alarms(&mut held, p);
+        Desk::ran(o, held, self.book)
     }
 
     pub fn command(self, p: Command) -> Played
         ensures { λ r. ⌜ r ≡ played self (commandCall p) ⌝ }
     {
-        Desk::ran(self.meter.command(p), self.book)
+        let mut held = self.meter.held;
+        let o = self.meter.machine.command(&mut held, p);
+        Desk::ran(o, held, self.book)
     }
 
     pub fn key(self, p: Key) -> Played
         ensures { λ r. ⌜ r ≡ played self (keyCall p) ⌝ }
     {
-        Desk::ran(self.meter.key(p), self.book)
+        let mut held = self.meter.held;
+        let o = self.meter.machine.key(&mut held, p);
+        Desk::ran(o, held, self.book)
     }
 
     pub fn tick(self, p: Tick) -> Played
         ensures { λ r. ⌜ r ≡ played self (tickCall p) ⌝ }
     {
-        Desk::ran(self.meter.tick(p), self.book)
+        let mut held = self.meter.held;
+        let o = self.meter.machine.tick(&mut held, p);
+        Desk::ran(o, held, self.book)
     }
 }

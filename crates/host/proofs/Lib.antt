@@ -1,5 +1,6 @@
 pub mod Called
 pub mod Kind
+pub mod Parted
 pub mod Lent
 pub mod LentSlice
 pub mod Metered

@@ -10,7 +10,7 @@ use lib.Dec.{leb}
 use lib.ListN.{length, getD, drop, drop-of-length-le}
 use lib.Seq.{drop-cons}
 use borrow.Author.Tests.{le-leb, leb-true}
-use Rattle.journal.specs.declared.Record.{Record}
+use Rattle.records.specs.declared.Record.{Record}
 use Rattle.query.specs.declared.Summed.the-variants.{Volume, Refused as NoSum}
 use Rattle.query.specs.Queries.{volumesSum, volumesLow, sumAnswer}
 use Rattle.host.specs.declared.SumReply.{SumReply}

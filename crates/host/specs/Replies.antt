@@ -6,17 +6,17 @@ use lib.Dec.{leb}
 use lib.IntN.{pos}
 use Rattle.answer.specs.declared.Answer.{Answer}
 use Rattle.answer.specs.declared.Answer.the-variants.{Accepted, Refused}
-use Rattle.journal.specs.declared.Record.{Record}
-use Rattle.journal.specs.declared.Fetched.{Fetched}
-use Rattle.journal.specs.declared.Fetched.the-variants.{Held, Refused as NotHeld}
-use Rattle.journal.specs.declared.Heavy.{Heavy}
-use Rattle.journal.specs.declared.Heavy.the-variants.{Day, NoDay}
+use Rattle.records.specs.declared.Record.{Record}
+use Rattle.records.specs.declared.Fetched.{Fetched}
+use Rattle.records.specs.declared.Fetched.the-variants.{Held, Refused as NotHeld}
+use Rattle.records.specs.declared.Heavy.{Heavy}
+use Rattle.records.specs.declared.Heavy.the-variants.{Day, NoDay}
 use Rattle.slots.specs.declared.Stepped.{Stepped}
 use Rattle.slots.specs.declared.Stepped.the-variants.{At, Refused as NoStep}
 use Rattle.record.specs.declared.Reading.{Reading}
 use Rattle.record.specs.declared.Choice.{Choice}
 use Rattle.record.specs.declared.Choice.the-variants.{First, Second, Refused as Neither}
-use Rattle.meter.specs.declared.Meter.{Meter}
+use Rattle.state.specs.State.{State}
 use Rattle.meter.specs.declared.Done.{Done}
 use Rattle.query.specs.declared.Displayed.{Displayed}
 use Rattle.query.specs.declared.Displayed.the-variants.{Shows, Refused as Dark}
@@ -67,7 +67,7 @@ heavyReplyOf (Day k r) = record { accepted = true; refusal = 0; place = k; held 
 heavyReplyOf (NoDay n) = record { accepted = false; refusal = n; place = 0; held = noRecord }
 
 -- the heavy day alone is loose: the reply is that of some answer that the query may give
-pub record HeavyReplied (m : Meter) (v : ℕ) (r : RecordReply) : Type 0 where
+pub record HeavyReplied (m : State) (v : ℕ) (r : RecordReply) : Type 0 where
   pub found : Heavy
   pub right : HeavyAnswer m v found
   pub told : r ≡ heavyReplyOf found

@@ -3,14 +3,12 @@
 // left as it was. Answers are flat structs: `accepted`, else the number in `refusal`, all else 0.
 use account::Codes;
 use answer::Answer;
-use journal::Fetched;
-use journal::Heavy;
-use journal::Record;
 use meter::Alarms;
 use meter::Command;
 use meter::Done;
 use meter::Key;
 use meter::Load;
+use meter::Machine;
 use meter::Meter;
 use meter::Pulses;
 use meter::Recharge;
@@ -20,6 +18,10 @@ use plan::StepPrice;
 use query::Displayed;
 use query::Summed;
 use record::Choice;
+use records::Fetched;
+use records::Heavy;
+use records::Record;
+use records::held::Words;
 use slots::Stepped;
 use units::Charge;
 use units::Hundredths;
@@ -30,9 +32,8 @@ ghost use mathlib.Core.Path.{_≡_};
 ghost use Prim.Native.Nat.{ℕ};
 ghost use Rattle.record.specs.Record.{readOf, writeAnswer, written};
 ghost use Rattle.record.specs.Choice.{choiceOf};
-ghost use Rattle.state.specs.State.{fresh};
 ghost use Rattle.meter.specs.Call.{pulses as pulsesCall, recharge as rechargeCall, load as loadCall, alarms as alarmsCall, command as commandCall, key as keyCall, tick as tickCall};
-ghost use Rattle.meter.specs.Machine.{outcome};
+ghost use Rattle.meter.specs.Machine.{meterOf, stateIn, freshMeter, outcome};
 ghost use Rattle.query.specs.Queries.{stepAnswer, displayAnswer, dayAnswer, monthAnswer, sumAnswer};
 ghost use Rattle.host.specs.Replies.{noRecord, replyOf, verdictOf, stepReplyOf, displayReplyOf, recordReplyOf, heavyReplyOf, HeavyReplied, sumReplyOf, planReplyOf, partReplyOf, startOf, addOf};
 
@@ -119,7 +120,7 @@ fn reply_of(d: Done) -> Reply
 
 #[no_mangle]
 pub extern "C" fn harpdapple_fresh() -> Meter
-    ensures { λ r. ⌜ r .state ≡ fresh ⌝ }
+    ensures { λ r. ⌜ r ≡ freshMeter ⌝ }
 {
     Meter::fresh()
 }
@@ -128,8 +129,8 @@ pub extern "C" fn harpdapple_fresh() -> Meter
 pub extern "C" fn harpdapple_pulses(meter: &mut Meter, call: Pulses) -> Reply
     ensures { λ r. ⌜ (now (meter .exit) ≡ outcome (now (meter .entry)) (pulsesCall call) .meter) × (r ≡ replyOf (outcome (now (meter .entry)) (pulsesCall call) .done)) ⌝ }
 {
-    let r = (*meter).pulses(call);
-    *meter = r.meter;
+    let r = (*meter).machine.pulses(&mut (*meter).held, call);
+    (*meter).machine = r.machine;
     reply_of(r.done)
 }
 
@@ -137,8 +138,8 @@ pub extern "C" fn harpdapple_pulses(meter: &mut Meter, call: Pulses) -> Reply
 pub extern "C" fn harpdapple_recharge(meter: &mut Meter, call: Recharge) -> Reply
     ensures { λ r. ⌜ (now (meter .exit) ≡ outcome (now (meter .entry)) (rechargeCall call) .meter) × (r ≡ replyOf (outcome (now (meter .entry)) (rechargeCall call) .done)) ⌝ }
 {
-    let r = (*meter).recharge(call);
-    *meter = r.meter;
+    let r = (*meter).machine.recharge(&mut (*meter).held, call);
+    (*meter).machine = r.machine;
     reply_of(r.done)
 }
 
@@ -146,8 +147,8 @@ pub extern "C" fn harpdapple_recharge(meter: &mut Meter, call: Recharge) -> Repl
 pub extern "C" fn harpdapple_load(meter: &mut Meter, call: Load, bytes: &[u8]) -> Reply
     ensures { λ r. ⌜ (now (meter .exit) ≡ outcome (now (meter .entry)) (loadCall call (now (bytes .entry))) .meter) × (r ≡ replyOf (outcome (now (meter .entry)) (loadCall call (now (bytes .entry))) .done)) ⌝ }
 {
-    let r = (*meter).load(call, bytes);
-    *meter = r.meter;
+    let r = (*meter).machine.load(&mut (*meter).held, call, bytes);
+    (*meter).machine = r.machine;
     reply_of(r.done)
 }
 
@@ -155,8 +156,8 @@ pub extern "C" fn harpdapple_load(meter: &mut Meter, call: Load, bytes: &[u8]) -
 pub extern "C" fn harpdapple_alarms(meter: &mut Meter, call: Alarms) -> Reply
     ensures { λ r. ⌜ (now (meter .exit) ≡ outcome (now (meter .entry)) (alarmsCall call) .meter) × (r ≡ replyOf (outcome (now (meter .entry)) (alarmsCall call) .done)) ⌝ }
 {
-    let r = (*meter).alarms(call);
-    *meter = r.meter;
+    let r = (*meter).machine.alarms(&mut (*meter).held, call);
+    (*meter).machine = r.machine;
     reply_of(r.done)
 }
 
@@ -164,8 +165,8 @@ pub extern "C" fn harpdapple_alarms(meter: &mut Meter, call: Alarms) -> Reply
 pub extern "C" fn harpdapple_command(meter: &mut Meter, call: Command) -> Reply
     ensures { λ r. ⌜ (now (meter .exit) ≡ outcome (now (meter .entry)) (commandCall call) .meter) × (r ≡ replyOf (outcome (now (meter .entry)) (commandCall call) .done)) ⌝ }
 {
-    let r = (*meter).command(call);
-    *meter = r.meter;
+    let r = (*meter).machine.command(&mut (*meter).held, call);
+    (*meter).machine = r.machine;
     reply_of(r.done)
 }
 
@@ -173,8 +174,8 @@ pub extern "C" fn harpdapple_command(meter: &mut Meter, call: Command) -> Reply
 pub extern "C" fn harpdapple_key(meter: &mut Meter, call: Key) -> Reply
     ensures { λ r. ⌜ (now (meter .exit) ≡ outcome (now (meter .entry)) (keyCall call) .meter) × (r ≡ replyOf (outcome (now (meter .entry)) (keyCall call) .done)) ⌝ }
 {
-    let r = (*meter).key(call);
-    *meter = r.meter;
+    let r = (*meter).machine.key(&mut (*meter).held, call);
+    (*meter).machine = r.machine;
     reply_of(r.done)
 }
 
@@ -182,17 +183,17 @@ pub extern "C" fn harpdapple_key(meter: &mut Meter, call: Key) -> Reply
 pub extern "C" fn harpdapple_tick(meter: &mut Meter, call: Tick) -> Reply
     ensures { λ r. ⌜ (now (meter .exit) ≡ outcome (now (meter .entry)) (tickCall call) .meter) × (r ≡ replyOf (outcome (now (meter .entry)) (tickCall call) .done)) ⌝ }
 {
-    let r = (*meter).tick(call);
-    *meter = r.meter;
+    let r = (*meter).machine.tick(&mut (*meter).held, call);
+    (*meter).machine = r.machine;
     reply_of(r.done)
 }
 
 // The queries: each by value first, then over a lent meter.
 
-fn step_reply(m: Meter) -> StepReply
-    ensures { λ r. ⌜ r ≡ stepReplyOf (stepAnswer m) ⌝ }
+fn step_reply(m: Machine, words: &Words) -> StepReply
+    ensures { λ r. ⌜ r ≡ stepReplyOf (stepAnswer (stateIn (meterOf m (now (words .entry))))) ⌝ }
 {
-    let a = query::step(m);
+    let a = query::step(m.registers, words);
     match a {
         Stepped::At(step) => StepReply {
             accepted: true,
@@ -210,10 +211,10 @@ fn step_reply(m: Meter) -> StepReply
     }
 }
 
-fn display_reply(m: Meter) -> DisplayReply
-    ensures { λ r. ⌜ r ≡ displayReplyOf (displayAnswer m) ⌝ }
+fn display_reply(m: Machine, words: &Words) -> DisplayReply
+    ensures { λ r. ⌜ r ≡ displayReplyOf (displayAnswer (stateIn (meterOf m (now (words .entry))))) ⌝ }
 {
-    let a = query::display(m);
+    let a = query::display(m.registers, words);
     match a {
         Displayed::Shows(shown) => DisplayReply {
             accepted: true,
@@ -261,17 +262,17 @@ fn record_reply(place: usize, a: Fetched) -> RecordReply
     }
 }
 
-fn day_reply(m: Meter, k: usize) -> RecordReply
-    ensures { λ r. ⌜ r ≡ recordReplyOf k (dayAnswer m k) ⌝ }
+fn day_reply(m: Machine, words: &Words, k: usize) -> RecordReply
+    ensures { λ r. ⌜ r ≡ recordReplyOf k (dayAnswer (stateIn (meterOf m (now (words .entry)))) k) ⌝ }
 {
-    let a = query::day(m, k);
+    let a = query::day(m.registers, words, k);
     record_reply(k, a)
 }
 
-fn month_reply(m: Meter, k: usize) -> RecordReply
-    ensures { λ r. ⌜ r ≡ recordReplyOf k (monthAnswer m k) ⌝ }
+fn month_reply(m: Machine, words: &Words, k: usize) -> RecordReply
+    ensures { λ r. ⌜ r ≡ recordReplyOf k (monthAnswer (stateIn (meterOf m (now (words .entry)))) k) ⌝ }
 {
-    let a = query::month(m, k);
+    let a = query::month(m.registers, words, k);
     record_reply(k, a)
 }
 
@@ -297,46 +298,46 @@ fn heavy_found(a: Heavy) -> RecordReply
     }
 }
 
-fn heavy_reply(m: Meter, v: Hundredths) -> RecordReply
-    ensures { λ r. ⌜ HeavyReplied m (v .0) r ⌝ }
+fn heavy_reply(m: Machine, words: &Words, v: Hundredths) -> RecordReply
+    ensures { λ r. ⌜ HeavyReplied (stateIn (meterOf m (now (words .entry)))) (v .0) r ⌝ }
 {
-    let a = query::heavy(m, v);
+    let a = query::heavy(m.registers, words, v);
     heavy_found(a)
 }
 
 #[no_mangle]
 pub extern "C" fn harpdapple_step(meter: &Meter) -> StepReply
-    ensures { λ r. ⌜ r ≡ stepReplyOf (stepAnswer (now (meter .entry))) ⌝ }
+    ensures { λ r. ⌜ r ≡ stepReplyOf (stepAnswer (stateIn (now (meter .entry)))) ⌝ }
 {
-    step_reply(*meter)
+    step_reply((*meter).machine, &(*meter).held)
 }
 
 #[no_mangle]
 pub extern "C" fn harpdapple_display(meter: &Meter) -> DisplayReply
-    ensures { λ r. ⌜ r ≡ displayReplyOf (displayAnswer (now (meter .entry))) ⌝ }
+    ensures { λ r. ⌜ r ≡ displayReplyOf (displayAnswer (stateIn (now (meter .entry)))) ⌝ }
 {
-    display_reply(*meter)
+    display_reply((*meter).machine, &(*meter).held)
 }
 
 #[no_mangle]
 pub extern "C" fn harpdapple_day(meter: &Meter, k: usize) -> RecordReply
-    ensures { λ r. ⌜ r ≡ recordReplyOf k (dayAnswer (now (meter .entry)) k) ⌝ }
+    ensures { λ r. ⌜ r ≡ recordReplyOf k (dayAnswer (stateIn (now (meter .entry))) k) ⌝ }
 {
-    day_reply(*meter, k)
+    day_reply((*meter).machine, &(*meter).held, k)
 }
 
 #[no_mangle]
 pub extern "C" fn harpdapple_month(meter: &Meter, k: usize) -> RecordReply
-    ensures { λ r. ⌜ r ≡ recordReplyOf k (monthAnswer (now (meter .entry)) k) ⌝ }
+    ensures { λ r. ⌜ r ≡ recordReplyOf k (monthAnswer (stateIn (now (meter .entry))) k) ⌝ }
 {
-    month_reply(*meter, k)
+    month_reply((*meter).machine, &(*meter).held, k)
 }
 
 #[no_mangle]
 pub extern "C" fn harpdapple_heavy(meter: &Meter, volume: Hundredths) -> RecordReply
-    ensures { λ r. ⌜ HeavyReplied (now (meter .entry)) (volume .0) r ⌝ }
+    ensures { λ r. ⌜ HeavyReplied (stateIn (now (meter .entry))) (volume .0) r ⌝ }
 {
-    heavy_reply(*meter, volume)
+    heavy_reply((*meter).machine, &(*meter).held, volume)
 }
 
 // The sum of volumes over a host's list of day records: its start, and one record more.

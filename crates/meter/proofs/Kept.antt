@@ -18,7 +18,7 @@ use Rattle.calendar.proofs.Stamps.{not-before-date}
 use Rattle.account.specs.Account.{alarmsGood, freshAccount}
 use Rattle.account.specs.Valve.{freshValve}
 use Rattle.account.proofs.Kept.{recharged-good, alarmed-good}
-use Rattle.journal.specs.Bounds.{freshJournal}
+use Rattle.records.specs.Bounds.{freshPeriods, freshHeld}
 use Rattle.plan.specs.declared.Plan.{Plan}
 use Rattle.record.specs.declared.Reading.{Reading}
 use Rattle.record.specs.Record.{readOf}
@@ -29,8 +29,7 @@ use Rattle.slots.specs.Laws.{Laws}
 use Rattle.slots.specs.Slots.{inSlot, someForce, chargeOn, fee, used, keeps}
 use Rattle.slots.specs.Load.{slotAt, otherAt, holding, meetsSlot, loadRefusal, loaded}
 use Rattle.slots.specs.Bounds.{slotGood, apart, freshSlots}
-use Rattle.state.specs.declared.State.{State}
-use Rattle.state.specs.State.{fresh}
+use Rattle.state.specs.State.{State, fresh}
 use Rattle.state.specs.Bounds.{stampGood, bounded, isFresh, freshVolumes}
 use Rattle.state.specs.Turn.{turn}
 use Rattle.state.specs.Refusals.{stampRefusal, pulseRefusal, keyAllowed}
@@ -73,7 +72,7 @@ module _ (w : World) (L : Laws w) where
   force-two s p d h f = neither (inSlot w (s .one) d) (inSlot w (s .two) d) (or-left (inSlot w (s .one) d) (inSlot w (holding p) d) f) h
 
   load-state : (m : State) (k : ℕ) (r : Reading) → loadRefusal w (m .slots) (m .clock .date) k r ≡ Accepted → w .good (r .plan) ≡ true → Parts w L m →
-      Parts w L (record { clock = m .clock; account = m .account; slots = loaded (m .slots) k (r .plan); volumes = m .volumes; valve = m .valve; journal = m .journal })
+      Parts w L (record { clock = m .clock; account = m .account; slots = loaded (m .slots) k (r .plan); volumes = m .volumes; valve = m .valve; periods = m .periods; held = m .held })
   unfolding loadRefusal loaded
   load-state m k r h y i =
       let d = m .clock .date in
@@ -96,8 +95,9 @@ module _ (w : World) (L : Laws w) where
           apart = apart-first (m .slots .two) (r .plan) d (rw e at q);
           usage = a .usage;
         });
-        journal = i .journal;
-        idle = idle-out w L (record { clock = m .clock; account = m .account; slots = record { one = holding (r .plan); two = m .slots .two; usage = m .slots .usage }; volumes = m .volumes; valve = m .valve; journal = m .journal })
+        periods = i .periods;
+        held = i .held;
+        idle = idle-out w L (record { clock = m .clock; account = m .account; slots = record { one = holding (r .plan); two = m .slots .two; usage = m .slots .usage }; volumes = m .volumes; valve = m .valve; periods = m .periods; held = m .held })
             (λ f. idle-in w L m i (force-one (m .slots) (r .plan) d (rw e at s) f));
       }))
       (λ e. rw e (record {
@@ -109,8 +109,9 @@ module _ (w : World) (L : Laws w) where
           apart = apart-second (m .slots .one) (r .plan) d (rw e at q);
           usage = a .usage;
         });
-        journal = i .journal;
-        idle = idle-out w L (record { clock = m .clock; account = m .account; slots = record { one = m .slots .one; two = holding (r .plan); usage = m .slots .usage }; volumes = m .volumes; valve = m .valve; journal = m .journal })
+        periods = i .periods;
+        held = i .held;
+        idle = idle-out w L (record { clock = m .clock; account = m .account; slots = record { one = m .slots .one; two = holding (r .plan); usage = m .slots .usage }; volumes = m .volumes; valve = m .valve; periods = m .periods; held = m .held })
             (λ f. idle-in w L m i (force-two (m .slots) (r .plan) d (rw e at s) f));
       }))
 
@@ -132,7 +133,8 @@ module _ (w : World) (L : Laws w) where
     volumes = i .volumes;
     account = recharged-good (turn w m (r .stamp) .account) (turn w m (r .stamp) .volumes .total .0) (r .amount .0) (r .serial) (rw (turn-account w L m (r .stamp)) h) (i .account);
     slots = i .slots;
-    journal = i .journal;
+    periods = i .periods;
+    held = i .held;
     idle = i .idle;
   }
   effect-state m (load c bytes) h i =
@@ -143,14 +145,16 @@ module _ (w : World) (L : Laws w) where
     volumes = i .volumes;
     account = alarmed-good (turn w m (a .stamp) .account) (turn w m (a .stamp) .volumes .total .0) (a .one) (a .two) (need-first (alarmsGood (a .one) (a .two)) 23 Accepted h) (i .account);
     slots = i .slots;
-    journal = i .journal;
+    periods = i .periods;
+    held = i .held;
     idle = i .idle;
   }
   effect-state m (command c) h i = record {
     volumes = i .volumes;
     account = i .account;
     slots = i .slots;
-    journal = i .journal;
+    periods = i .periods;
+    held = i .held;
     idle = idle-out w L (effectOf w (turn w m (c .stamp)) (command c)) (λ f.
         let z = idle-in w L (turn w m (c .stamp)) i f in
         (z .0, ap (λ (b : Bool). b && eqb (c .code) 1) (z .1)));
@@ -164,7 +168,8 @@ module _ (w : World) (L : Laws w) where
         volumes = i .volumes;
         account = i .account;
         slots = i .slots;
-        journal = i .journal;
+        periods = i .periods;
+        held = i .held;
         idle = idle-out w L (effectOf w (turn w m (k .stamp)) (key k)) (λ g.
             absurd (never f (sym (turn-force w L m (k .stamp) d) ∙ ap (λ (s : Stamp). someForce w (turn w m (k .stamp) .slots) (s .date)) (sym (turn-clock w L m (k .stamp))) ∙ g)));
       }
@@ -226,5 +231,5 @@ module _ (w : World) (L : Laws w) where
 
   -- a fresh meter is within its bounds
   pub fresh-bounded : bounded w fresh ≡ true
-  unfolding bounded isFresh freshAccount freshSlots freshVolumes freshValve freshJournal fresh
+  unfolding bounded isFresh freshAccount freshSlots freshVolumes freshValve freshPeriods freshHeld fresh
   fresh-bounded = refl

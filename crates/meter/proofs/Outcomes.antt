@@ -1,57 +1,64 @@
 -- What a call answers, by its refusal: the laws with which the proofs of the calls end.
-use mathlib.Core.Path.{_≡_, refl, sym}
+use mathlib.Core.Path.{_≡_, refl, sym, _∙_}
+use mathlib.Core.List.{List}
 use Prim.Native.Nat.{ℕ}
 use native.Mathlib.Omega.{arith}
 use Rattle.answer.specs.declared.Answer.{Answer}
 use Rattle.answer.specs.declared.Answer.the-variants.{Accepted, Refused}
+use Rattle.calendar.specs.declared.Dated.{Dated}
 use Rattle.calendar.specs.declared.Dated.the-variants.{On, Refused as Off}
 use Rattle.account.specs.declared.Codes.{Codes}
 use Rattle.account.specs.Codes.{noCodes, noteAll}
 use Rattle.account.proofs.Notes.{note-append}
 use Rattle.slots.specs.World.{World, real}
-use Rattle.state.specs.declared.State.{State}
-use Rattle.state.specs.Turn.{turn, turnCodes}
+use Rattle.state.specs.declared.Registers.{Registers}
+use Rattle.state.specs.State.{State, stateWith, registersOf}
+use Rattle.state.specs.Turn.{turn, turnCodes, turnWords}
 use Rattle.state.specs.Refusals.{stampRefusal, datedBy}
 use Rattle.meter.specs.declared.Meter.{Meter}
+use Rattle.meter.specs.declared.Outcome.{Outcome}
 use Rattle.meter.specs.Call.{Call, stampOf}
 use Rattle.meter.specs.Refusals.{ownRefusal, refusalOf}
 use Rattle.meter.specs.Effects.{effectOf, codesOf}
-use Rattle.meter.specs.Machine.{after, codesAfter, left, given, refusedOf, acceptedOf, outcome}
-
--- the meter of a state
-abbrev pub held : State → Meter
-held s = record { state = s }
-
--- a stamp that was not admitted
-pub not-admitted : (s : State) (c : Call) (n : ℕ) → datedBy (stampRefusal real s (stampOf c)) (stampOf c .date) ≡ Off n → outcome (held s) c ≡ refusedOf (held s) n
-unfolding outcome left given refusalOf noteAll
-not-admitted s c n h = go (stampRefusal real s (stampOf c)) refl h
-  where
-    go : (a : Answer) → stampRefusal real s (stampOf c) ≡ a → datedBy a (stampOf c .date) ≡ Off n → outcome (held s) c ≡ refusedOf (held s) n
-    go Accepted e k = let z : _≡_ {A = ℕ} 0 1 = cc in absurd (omega arith)
-    go (Refused i) e k = let q : i ≡ n = cc in rw (e, q)
-
--- refused by a test of the call's own
-pub own-refused : (s : State) (c : Call) (n : ℕ) → stampRefusal real s (stampOf c) ≡ Accepted → ownRefusal real s c ≡ Refused n → outcome (held s) c ≡ refusedOf (held s) n
-unfolding outcome left given refusalOf noteAll
-own-refused s c n h k = rw (h, k)
-
--- accepted
-pub taken : (s : State) (c : Call) → stampRefusal real s (stampOf c) ≡ Accepted → ownRefusal real s c ≡ Accepted →
-    outcome (held s) c ≡ acceptedOf (after real s c) (noteAll noCodes (codesAfter real s c))
-unfolding outcome left given refusalOf noteAll
-taken s c h k = rw (h, k)
+use Rattle.meter.specs.Machine.{after, codesAfter, left, given, stateIn, outcome, Answers, refusedOf, acceptedOf, declinedOf, deniedOf}
 
 -- the refusal of a call whose stamp is admitted is its own, in any world
 pub refusal-own : (w : World) (s : State) (c : Call) → stampRefusal w s (stampOf c) ≡ Accepted → refusalOf w s c ≡ ownRefusal w s c
 unfolding refusalOf
 refusal-own w s c h = rw h
 
--- an accepted call whose state is the effect on the turned state, and whose codes are noted behind those of the turn
-pub accepts : (s : State) (c : Call) {n : State} {k : Codes} → stampRefusal real s (stampOf c) ≡ Accepted → ownRefusal real s c ≡ Accepted →
-    n ≡ effectOf real (turn real s (stampOf c)) c →
-    k ≡ noteAll (noteAll noCodes (turnCodes real s (stampOf c))) (codesOf real (turn real s (stampOf c)) c) →
-    acceptedOf n k ≡ outcome (held s) c
-unfolding after codesAfter
-accepts s c {n} {k} h o p q =
-    rw (p, q, note-append) (sym (taken s c h o))
+module _ (m : Meter) (c : Call) where
+  -- refused: machine and words stand as they were
+  refused : (n : ℕ) (r : Outcome) → refusalOf real (stateIn m) c ≡ Refused n → r ≡ refusedOf (m .machine) n → Answers m c r (m .held)
+  unfolding outcome left given noteAll registersOf stateWith
+  refused n r h e = rw (e, h) (refl, refl, refl)
+
+  -- a stamp that was not admitted
+  pub not-admitted : (d : Dated) (n : ℕ) (r : Outcome) → d ≡ datedBy (stampRefusal real (stateIn m) (stampOf c)) (stampOf c .date) → d ≡ Off n →
+      r ≡ declinedOf (m .machine) d → Answers m c r (m .held)
+  unfolding refusalOf
+  not-admitted d n r h k e = go (stampRefusal real (stateIn m) (stampOf c)) refl (sym h ∙ k)
+    where
+      go : (a : Answer) → stampRefusal real (stateIn m) (stampOf c) ≡ a → datedBy a (stampOf c .date) ≡ Off n → Answers m c r (m .held)
+      go Accepted e′ k′ = let z : _≡_ {A = ℕ} 0 1 = cc in absurd (omega arith)
+      go (Refused i) e′ k′ = let q : i ≡ n = cc in refused n r (rw (e′, q)) (rw k at e)
+
+  module _ (passed : stampRefusal real (stateIn m) (stampOf c) ≡ Accepted) where
+    -- refused by a test of the call's own
+    pub own-refused : (n : ℕ) (r : Outcome) → ownRefusal real (stateIn m) c ≡ Refused n → r ≡ refusedOf (m .machine) n → Answers m c r (m .held)
+    own-refused n r h e = refused n r (refusal-own real (stateIn m) c passed ∙ h) e
+
+    pub denied : (a : Answer) (n : ℕ) (r : Outcome) → a ≡ ownRefusal real (stateIn m) c → a ≡ Refused n → r ≡ deniedOf (m .machine) a → Answers m c r (m .held)
+    denied a n r h k e = own-refused n r (sym h ∙ k) (rw k at e)
+
+    -- accepted: the registers are those of the effect on the turned state, and the codes are noted behind those of the turn
+    pub accepts : (r : Outcome) (n : Registers) (k : Codes) (words : List ℕ) → ownRefusal real (stateIn m) c ≡ Accepted →
+        r ≡ acceptedOf n k →
+        n ≡ registersOf (effectOf real (turn real (stateIn m) (stampOf c)) c) →
+        words ≡ turnWords (m .machine .registers) (stampOf c) (m .held) →
+        k ≡ noteAll (noteAll noCodes (turnCodes real (stateIn m) (stampOf c))) (codesOf real (turn real (stateIn m) (stampOf c)) c) →
+        Answers m c r words
+    unfolding outcome left given after codesAfter
+    accepts r n k words own e p q t =
+        let h : refusalOf real (stateIn m) c ≡ Accepted = refusal-own real (stateIn m) c passed ∙ own in
+        rw (e, p, q, t, h, note-append) (refl, refl, refl)

@@ -8,8 +8,7 @@ use Rattle.account.specs.Account.{recharged, alarmed}
 use Rattle.record.specs.Record.{readOf}
 use Rattle.slots.specs.World.{World}
 use Rattle.slots.specs.Load.{loaded}
-use Rattle.state.specs.declared.State.{State}
-use Rattle.state.specs.State.{withAccount, withSlots, withValve}
+use Rattle.state.specs.State.{State, withAccount, withSlots, withValve}
 use Rattle.state.specs.Pulsed.{pulsed, pulseCodes}
 use Rattle.meter.specs.Call.{Call, pulses, recharge, load, alarms, command, key, tick}
 

@@ -8,7 +8,7 @@ use Rattle.account.specs.Account.{rechargeRefusal, alarmsGood}
 use Rattle.record.specs.Record.{readOf}
 use Rattle.slots.specs.World.{World}
 use Rattle.slots.specs.Load.{loadRefusal}
-use Rattle.state.specs.declared.State.{State}
+use Rattle.state.specs.State.{State}
 use Rattle.state.specs.Refusals.{stampRefusal, pulseRefusal, keyAllowed}
 use Rattle.meter.specs.Call.{Call, pulses, recharge, load, alarms, command, key, tick, stampOf}
 

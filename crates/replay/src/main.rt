@@ -168,8 +168,7 @@ fn close(desk: Desk, out: &mut [u8]) -> usize
     ensures { λ r. ⌜ r ≤ 320 ⌝ }
 {
     let b = desk.book;
-    let m = desk.meter;
-    let balance = m.state.account.balance;
+    let balance = desk.meter.machine.registers.account.balance;
     let sum = b.sum();
     report::closing_line(b.recharged.0, balance, sum.0, out)
 }

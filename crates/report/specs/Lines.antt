@@ -14,11 +14,11 @@ use Rattle.slots.specs.declared.Stepped.{Stepped}
 use Rattle.slots.specs.declared.Stepped.the-variants.{At, Refused as NoStep}
 use Rattle.query.specs.declared.Displayed.{Displayed}
 use Rattle.query.specs.declared.Displayed.the-variants.{Shows, Refused as NotShown}
-use Rattle.journal.specs.declared.Record.{Record}
-use Rattle.journal.specs.declared.Fetched.{Fetched}
-use Rattle.journal.specs.declared.Fetched.the-variants.{Held, Refused as NotHeld}
-use Rattle.journal.specs.declared.Heavy.{Heavy}
-use Rattle.journal.specs.declared.Heavy.the-variants.{Day, NoDay}
+use Rattle.records.specs.declared.Record.{Record}
+use Rattle.records.specs.declared.Fetched.{Fetched}
+use Rattle.records.specs.declared.Fetched.the-variants.{Held, Refused as NotHeld}
+use Rattle.records.specs.declared.Heavy.{Heavy}
+use Rattle.records.specs.declared.Heavy.the-variants.{Day, NoDay}
 
 unfoldable pub refusedLine : ℕ → List ℕ
 refusedLine n = letters "refused " ++ (decimal n ++ letters "\n")

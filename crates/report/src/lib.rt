@@ -3,12 +3,12 @@
 // 320 bytes is long enough for each.
 use account::Codes;
 use answer::Answer;
-use journal::Fetched;
-use journal::Heavy;
-use journal::Record;
 use meter::Done;
 use place::Value;
 use query::Displayed;
+use records::Fetched;
+use records::Heavy;
+use records::Record;
 use slots::Stepped;
 use units::Millionths;
 ghost use mathlib.Core.Path.{_≡_};

@@ -11,8 +11,8 @@ use Rattle.place.specs.Value.{fixed}
 use Rattle.account.specs.declared.Valve.{Valve}
 use Rattle.slots.specs.declared.Stepped.{Stepped}
 use Rattle.slots.specs.declared.Stepped.the-variants.{At, Refused}
-use Rattle.journal.specs.declared.Tally.{Tally}
-use Rattle.meter.specs.declared.Meter.{Meter}
+use Rattle.records.specs.declared.Tally.{Tally}
+use Rattle.state.specs.State.{State}
 use Rattle.query.specs.Queries.{stepAnswer}
 
 -- millionths of a yuan, with a minus sign where they are below 0
@@ -46,10 +46,10 @@ dayShown date t =
     ++ (letters " m3, " ++ (fixed 6 (t .charge .0)
     ++ letters " yuan\n"))))))
 
-unfoldable pub showLines : Meter → List ℕ
+unfoldable pub showLines : State → List ℕ
 showLines m =
-    balanceShown (m .state .account .balance .0)
-    ++ (usageShown (m .state .slots .usage .0)
+    balanceShown (m .account .balance .0)
+    ++ (usageShown (m .slots .usage .0)
     ++ (stepShown (stepAnswer m)
-    ++ (valveShown (m .state .valve)
-    ++ dayShown (m .state .clock .date) (m .state .journal .day))))
+    ++ (valveShown (m .valve)
+    ++ dayShown (m .clock .date) (m .periods .day))))

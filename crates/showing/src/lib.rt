@@ -1,10 +1,11 @@
 // A meter in plain words and units, as the program `replay` shows it, put at the start of a lent
 // buffer.
 use account::Valve;
-use journal::Tally;
-use meter::Meter;
 use place::Value;
+use records::Tally;
+use records::held::Words;
 use slots::Stepped;
+use state::Registers;
 use units::Hundredths;
 use units::Millionths;
 ghost use mathlib.Core.Path.{_≡_};
@@ -12,6 +13,7 @@ ghost use Prim.Native.Nat.{_+_, _≤_};
 ghost use lib.ListN.{length};
 ghost use Rattle.text.specs.Decimal.{startingWith};
 ghost use Rattle.place.specs.Place.{Placed};
+ghost use Rattle.state.specs.State.{stateOf};
 ghost use Rattle.showing.specs.Show.{balanceShown, usageShown, stepShown, valveShown, dayShown, showLines};
 
 // The lines that show a meter, each at a place: the balance.
@@ -85,14 +87,14 @@ fn day_at(date: u32, t: Tally, at: usize, out: &mut [u8]) -> usize
 }
 
 // A meter in plain words and units.
-pub fn show(m: Meter, out: &mut [u8]) -> usize
+pub fn show(r: Registers, words: &Words, out: &mut [u8]) -> usize
     requires { ⌜ 320 ≤ length (now out) ⌝ }
-    ensures { λ r. ⌜ (r ≡ length (showLines m)) × (r ≤ 320) × (now (out .exit) ≡ startingWith (showLines m) (now (out .entry))) ⌝ }
+    ensures { λ n. ⌜ (n ≡ length (showLines (stateOf r (now (words .entry))))) × (n ≤ 320) × (now (out .exit) ≡ startingWith (showLines (stateOf r (now (words .entry)))) (now (out .entry))) ⌝ }
 {
-    let step = query::step(m);
-    let b = balance_at(m.state.account.balance, 0, out);
-    let u = usage_at(m.state.slots.usage, b, out);
+    let step = query::step(r, words);
+    let b = balance_at(r.account.balance, 0, out);
+    let u = usage_at(r.slots.usage, b, out);
     let s = step_at(step, u, out);
-    let v = valve_at(m.state.valve, s, out);
-    day_at(m.state.clock.date, m.state.journal.day, v, out)
+    let v = valve_at(r.valve, s, out);
+    day_at(r.clock.date, r.periods.day, v, out)
 }

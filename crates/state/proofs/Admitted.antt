@@ -1,5 +1,5 @@
 -- What admission tells: a stamp that was admitted, and the reading of a stamp.
-use mathlib.Core.Path.{_≡_, refl}
+use mathlib.Core.Path.{_≡_, refl, ap, _∙_}
 use mathlib.Core.Bool.{Bool, true, false, cond}
 use Prim.Native.Nat.{ℕ}
 use native.Mathlib.Omega.{arith}
@@ -10,18 +10,12 @@ use Rattle.answer.proofs.Tests.{need-first, need-rest}
 use Rattle.calendar.specs.declared.Stamp.{Stamp}
 use Rattle.calendar.specs.declared.Dated.the-variants.{On, Refused as Off}
 use Rattle.calendar.specs.Stamp.{isStamp, dated, notBefore}
+use Rattle.slots.specs.declared.Force.{Force}
 use Rattle.slots.specs.World.{World, real}
-use Rattle.state.specs.declared.State.{State}
+use Rattle.slots.specs.Slots.{forceOn}
+use Rattle.state.specs.State.{State}
 use Rattle.state.specs.Bounds.{stampGood, bounded}
 use Rattle.state.specs.Refusals.{stampRefusal, datedBy}
-
--- an admitted stamp
-pub admitted : (m : State) (s : Stamp) (d : ℕ) → datedBy (stampRefusal real m s) (s .date) ≡ On d → (stampRefusal real m s ≡ Accepted) × (d ≡ s .date)
-admitted m s d h = go (stampRefusal real m s) refl h
-  where
-    go : (a : Answer) → stampRefusal real m s ≡ a → datedBy a (s .date) ≡ On d → (stampRefusal real m s ≡ Accepted) × (d ≡ s .date)
-    go Accepted e k = (e, (cc))
-    go (Refused i) e k = let z : _≡_ {A = ℕ} 0 1 = cc in absurd (omega arith)
 
 -- what admission tells, in any world: within bounds, a good stamp, and not before the clock
 pub stamp-passed :
@@ -34,10 +28,20 @@ stamp-passed w m s h =
     let b : c8 ≡ Accepted = need-rest (bounded w m) 0 c8 h in
     (need-first (bounded w m) 0 c8 h, need-first (stampGood w s) 8 c9 b, need-first (notBefore (m .clock) s) 9 Accepted (need-rest (stampGood w s) 8 c9 b))
 
-pub admitted-bounds :
-    (m : State) (s : Stamp) → stampRefusal real m s ≡ Accepted →
-    (bounded real m ≡ true) × (stampGood real s ≡ true) × (notBefore (m .clock) s ≡ true)
-admitted-bounds = stamp-passed real
+-- an admitted stamp
+pub record Admitted (m : State) (s : Stamp) (d : ℕ) : Type 0 where
+  pub passed : stampRefusal real m s ≡ Accepted
+  pub date : d ≡ s .date
+  pub bounds : bounded real m ≡ true
+  pub stamp : stampGood real s ≡ true
+  pub later : notBefore (m .clock) s ≡ true
+
+pub admitted : (m : State) (s : Stamp) (d : ℕ) → datedBy (stampRefusal real m s) (s .date) ≡ On d → Admitted m s d
+admitted m s d h = go (stampRefusal real m s) refl h
+  where
+    go : (a : Answer) → stampRefusal real m s ≡ a → datedBy a (s .date) ≡ On d → Admitted m s d
+    go Accepted e k = let b = stamp-passed real m s e in record { passed = e; date = cc; bounds = b .0; stamp = b .1; later = b .2 }
+    go (Refused i) e k = let z : _≡_ {A = ℕ} 0 1 = cc in absurd (omega arith)
 
 -- the reading of a stamp, in both cases
 pub read-on : (s : Stamp) {d : ℕ} → dated s ≡ On d → (stampGood real s ≡ true) × (d ≡ s .date)
@@ -55,3 +59,8 @@ read-off s {n} h = go (isStamp s) refl h
     go : (b : Bool) → isStamp s ≡ b → cond b (On (s .date)) (Off 8) ≡ Off n → (stampGood real s ≡ false) × (n ≡ 8)
     go true e k = let z : _≡_ {A = ℕ} 0 1 = cc in absurd (omega arith)
     go false e k = (e, (cc))
+
+-- what the turn to an admitted stamp asks for
+pub turn-may : {m : State} {s : Stamp} {d : ℕ} {was is : Force} → Admitted m s d → was ≡ forceOn real (m .slots) (m .clock .date) → is ≡ forceOn real (m .slots) d →
+    (bounded real m ≡ true) × ((stampGood real s ≡ true) × ((was ≡ forceOn real (m .slots) (m .clock .date)) × (is ≡ forceOn real (m .slots) (s .date))))
+turn-may {m} a w i = (a .bounds, (a .stamp, (w, i ∙ ap (forceOn real (m .slots)) (a .date))))

@@ -3,3 +3,4 @@ pub mod Parts
 pub mod Turned
 pub mod Pulses
 pub mod Rooms
+pub mod WordsTurned

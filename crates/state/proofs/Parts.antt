@@ -19,17 +19,15 @@ use Rattle.account.specs.declared.Account.{Account}
 use Rattle.account.specs.declared.Valve.{Valve}
 use Rattle.account.specs.Account.{alarmsGood, accountGood, freshAccount}
 use Rattle.account.specs.Valve.{freshValve}
-use Rattle.journal.specs.declared.Record.{Record}
-use Rattle.journal.specs.declared.Tally.{Tally}
-use Rattle.journal.specs.declared.Journal.{Journal}
-use Rattle.journal.specs.Bounds.{recordsGood, tallyGood, daysGood, monthsGood, journalGood, freshTally, freshJournal}
+use Rattle.records.specs.Bounds.{periodsGood, heldGood, freshPeriods, freshHeld}
+use Rattle.records.proofs.Kept.{fresh-periods, fresh-held}
 use Rattle.slots.specs.declared.Slots.{Slots}
 use Rattle.slots.specs.World.{World}
 use Rattle.slots.specs.Laws.{Laws}
 use Rattle.slots.specs.Slots.{inSlot, someForce}
 use Rattle.slots.specs.Bounds.{slotGood, apart, slotsGood, idleGood, freshSlots}
 use Rattle.state.specs.declared.Volumes.{Volumes}
-use Rattle.state.specs.declared.State.{State}
+use Rattle.state.specs.State.{State}
 use Rattle.state.specs.Bounds.{stampGood, noClock, freshVolumes, isFresh, volumesGood, stateGood, bounded}
 
 module _ (w : World) (L : Laws w) where
@@ -38,31 +36,35 @@ module _ (w : World) (L : Laws w) where
     pub volumes : volumesGood (m .volumes) ≡ true
     pub account : accountGood (m .account) (m .volumes .total .0) ≡ true
     pub slots : slotsGood w (m .slots) (m .clock .date) (m .volumes .total .0) ≡ true
-    pub journal : journalGood (m .volumes .total .0) (m .journal) ≡ true
+    pub periods : periodsGood (m .volumes .total .0) (m .periods) ≡ true
+    pub held : heldGood (m .volumes .total .0) (m .held) ≡ true
     pub idle : idleGood w (m .slots) (m .valve .opened) (m .clock .date) ≡ true
 
   pub state-in : (m : State) → stateGood w m ≡ true → Parts m
   unfolding stateGood
   state-in m h =
       let t = m .volumes .total .0 in
-      let e4 = idleGood w (m .slots) (m .valve .opened) (m .clock .date) in
-      let e3 = journalGood t (m .journal) && e4 in
+      let e5 = idleGood w (m .slots) (m .valve .opened) (m .clock .date) in
+      let e4 = heldGood t (m .held) && e5 in
+      let e3 = periodsGood t (m .periods) && e4 in
       let e2 = slotsGood w (m .slots) (m .clock .date) t && e3 in
       let e1 = accountGood (m .account) t && e2 in
       let h1 : e1 ≡ true = and-right (volumesGood (m .volumes)) e1 h in
       let h2 : e2 ≡ true = and-right (accountGood (m .account) t) e2 h1 in
       let h3 : e3 ≡ true = and-right (slotsGood w (m .slots) (m .clock .date) t) e3 h2 in
+      let h4 : e4 ≡ true = and-right (periodsGood t (m .periods)) e4 h3 in
       record {
         volumes = and-left (volumesGood (m .volumes)) e1 h;
         account = and-left (accountGood (m .account) t) e2 h1;
         slots = and-left (slotsGood w (m .slots) (m .clock .date) t) e3 h2;
-        journal = and-left (journalGood t (m .journal)) e4 h3;
-        idle = and-right (journalGood t (m .journal)) e4 h3;
+        periods = and-left (periodsGood t (m .periods)) e4 h3;
+        held = and-left (heldGood t (m .held)) e5 h4;
+        idle = and-right (heldGood t (m .held)) e5 h4;
       }
 
   pub state-out : (m : State) → Parts m → stateGood w m ≡ true
   unfolding stateGood
-  state-out m s = rw (s .volumes, s .account, s .slots, s .journal, s .idle)
+  state-out m s = rw (s .volumes, s .account, s .slots, s .periods, s .held, s .idle)
 
   -- fresh values are within the bounds
   fresh-volumes : (v : Volumes) → freshVolumes v ≡ true → volumesGood v ≡ true
@@ -110,41 +112,11 @@ module _ (w : World) (L : Laws w) where
       let u = unloaded s h in
       rw (u .0, u .1, eq-eqb (s .usage .0) 0 (u .2), not-true (v .opened) (and-right (v .allow) (not (v .opened)) k))
 
-  fresh-tally : (t : Tally) (total : ℕ) → freshTally t ≡ true → tallyGood total t ≡ true
-  unfolding tallyGood
-  fresh-tally t total h =
-      let a : t .volume .0 ≡ 0 = eqb-true (t .volume .0) 0 (and-left (eqb (t .volume .0) 0) (eqb (t .charge .0) 0) h) in
-      let b : t .charge .0 ≡ 0 = eqb-true (t .charge .0) 0 (and-right (eqb (t .volume .0) 0) (eqb (t .charge .0) 0) h) in
-      both (leb (t .volume .0) total) (chargeInBounds (t .charge .0) total) (le-leb (t .volume .0) total (omega arith)) (le-leb (t .charge .0) (total * 99999999) (omega arith))
-
-  none-good : (total n : ℕ) (l : List Record) → n ≡ 0 → recordsGood total (take n l) ≡ true
-  unfolding recordsGood
-  none-good total n l h = rw h
-
-  fresh-journal : (j : Journal) (total : ℕ) → freshJournal j ≡ true → journalGood total j ≡ true
-  unfolding freshJournal journalGood daysGood monthsGood
-  fresh-journal j total h =
-      let e2 = eqb (j .days .count) 0 && eqb (j .months .count) 0 in
-      let e1 = freshTally (j .month) && e2 in
-      let h1 : e1 ≡ true = and-right (freshTally (j .day)) e1 h in
-      let h2 : e2 ≡ true = and-right (freshTally (j .month)) e2 h1 in
-      let a : j .days .count ≡ 0 = eqb-true (j .days .count) 0 (and-left (eqb (j .days .count) 0) (eqb (j .months .count) 0) h2) in
-      let b : j .months .count ≡ 0 = eqb-true (j .months .count) 0 (and-right (eqb (j .days .count) 0) (eqb (j .months .count) 0) h2) in
-      let p = fresh-tally (j .day) total (and-left (freshTally (j .day)) e1 h) in
-      let q = fresh-tally (j .month) total (and-left (freshTally (j .month)) e2 h1) in
-      rw (
-        p,
-        q,
-        none-good total (j .days .count) (j .days .held) a,
-        none-good total (j .months .count) (j .months .held) b,
-        le-leb (j .days .count) 62 (omega arith),
-        le-leb (j .months .count) 120 (omega arith),
-      )
-
   fresh-state : (m : State) → isFresh m ≡ true → Parts m
   unfolding isFresh
   fresh-state m h =
-      let e5 = freshJournal (m .journal) in
+      let e6 = freshHeld (m .held) in
+      let e5 = freshPeriods (m .periods) && e6 in
       let e4 = freshValve (m .valve) && e5 in
       let e3 = freshVolumes (m .volumes) && e4 in
       let e2 = freshSlots (m .slots) && e3 in
@@ -153,12 +125,14 @@ module _ (w : World) (L : Laws w) where
       let h2 : e2 ≡ true = and-right (freshAccount (m .account)) e2 h1 in
       let h3 : e3 ≡ true = and-right (freshSlots (m .slots)) e3 h2 in
       let h4 : e4 ≡ true = and-right (freshVolumes (m .volumes)) e4 h3 in
+      let h5 : e5 ≡ true = and-right (freshValve (m .valve)) e5 h4 in
       let s = and-left (freshSlots (m .slots)) e3 h2 in
       record {
         volumes = fresh-volumes (m .volumes) (and-left (freshVolumes (m .volumes)) e4 h3);
         account = fresh-account (m .account) (m .volumes .total .0) (and-left (freshAccount (m .account)) e2 h1);
         slots = fresh-slots (m .slots) (m .clock .date) (m .volumes .total .0) s;
-        journal = fresh-journal (m .journal) (m .volumes .total .0) (and-right (freshValve (m .valve)) e5 h4);
+        periods = fresh-periods (m .volumes .total .0) (m .periods) (and-left (freshPeriods (m .periods)) e6 h5);
+        held = fresh-held (m .volumes .total .0) (m .held) (and-right (freshPeriods (m .periods)) e6 h5);
         idle = fresh-idle (m .slots) (m .valve) (m .clock .date) s (and-left (freshValve (m .valve)) e5 h4);
       }
 

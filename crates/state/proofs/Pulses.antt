@@ -9,14 +9,14 @@ use Rattle.units.specs.Volume.{highestTotal}
 use Rattle.answer.proofs.Tests.{cases, and-left}
 use Rattle.account.specs.Fall.{Mark, marks, valveAfter, fallValve}
 use Rattle.account.proofs.Kept.{charged-good}
-use Rattle.journal.proofs.Kept.{counted-good}
+use Rattle.records.proofs.Kept.{counted-good, held-grown}
 use Rattle.slots.specs.declared.Slot.{Slot}
 use Rattle.slots.specs.declared.Slots.{Slots}
 use Rattle.slots.specs.World.{World}
 use Rattle.slots.specs.Laws.{Laws}
 use Rattle.slots.specs.Slots.{inSlot, someForce, chargeOn, fee, used}
 use Rattle.slots.specs.Bounds.{slotGood}
-use Rattle.state.specs.declared.State.{State}
+use Rattle.state.specs.State.{State}
 use Rattle.state.specs.Pulsed.{grown, priced, costOf, pulsed}
 use Rattle.state.proofs.Parts.{Parts}
 use Rattle.state.proofs.Turned.{slots-in, slots-out, idle-in, idle-out, total-in, total-out, Apart}
@@ -73,7 +73,8 @@ module _ (w : World) (L : Laws w) where
         volumes = total-out w L (grown (m .volumes) (priced w m) n) h (unpriced-low (priced w m) (m .volumes .unpriced .0) n t (total-in w L (m .volumes) (i .volumes) .1));
         account = charged-good (m .account) t n (costOf w m n) c (i .account);
         slots = slots-out w L (used (m .slots) (priced w m) n) (m .clock .date) (t + n) (slots-used (m .slots) (priced w m) (m .clock .date) n t a);
-        journal = counted-good t n (costOf w m n) (m .journal) c (i .journal);
+        periods = counted-good t n (costOf w m n) (m .periods) c (i .periods);
+        held = held-grown t n (m .held) (i .held);
         idle = idle-out w L (pulsed w m n) (λ f.
             let g : someForce w (m .slots) (m .clock .date) ≡ false = sym (force-used (m .slots) (priced w m) n (m .clock .date)) ∙ f in
             let z = idle-in w L m i g in (

@@ -1,7 +1,7 @@
 -- What the bounds of a meter leave for the leaves of a call, before and after the day is turned.
 use mathlib.Core.Path.{_≡_, refl, sym, ap, _∙_}
 use mathlib.Core.Bool.{Bool, true, false, cond, not, _&&_, _||_}
-use mathlib.Core.List.{[]}
+use mathlib.Core.List.{List, []}
 use Prim.Native.Nat.{ℕ, _+_, _*_, _^_, _≤_, _<_}
 use native.Mathlib.Omega.{arith}
 use lib.Dec.{leb, ltb, eqb}
@@ -17,23 +17,27 @@ use Rattle.calendar.specs.Stamp.{notBefore}
 use Rattle.calendar.proofs.Stamps.{not-before-date}
 use Rattle.account.specs.Account.{rechargeRefusal}
 use Rattle.account.proofs.Kept.{account-room, recharge-small}
-use Rattle.journal.proofs.Room.{room}
+use Rattle.records.proofs.Room.{room}
 use Rattle.slots.specs.declared.Slot.{Slot}
 use Rattle.slots.specs.World.{real}
 use Rattle.slots.specs.Slots.{inSlot, someForce, slotOn, forceOn, fee, slotsTurned}
 use Rattle.slots.specs.Bounds.{slotGood, apart, freshSlots}
 use Rattle.slots.proofs.Real.{real-laws}
 use Rattle.state.specs.declared.Volumes.{Volumes}
-use Rattle.state.specs.declared.State.{State}
-use Rattle.state.specs.State.{withClock}
+use Rattle.records.specs.Records.{noneHeld}
+use Rattle.records.specs.Bounds.{freshHeld}
+use Rattle.records.proofs.Kept.{fresh-held}
+use Rattle.state.specs.declared.Registers.{Registers}
+use Rattle.state.specs.State.{State, stateWith, stateOf, alone, registersOf, withClock}
 use Rattle.state.specs.Bounds.{stampGood, noClock, isFresh, freshVolumes, stateGood, bounded}
 use Rattle.account.specs.Account.{freshAccount}
-use Rattle.state.specs.Turn.{turn, turnedTo, turnCodes}
+use Rattle.state.specs.Turn.{turn, turnedTo, turnCodes, turnWords}
+use Rattle.state.specs.Pulsed.{pulsed, pulseCodes}
 use Rattle.state.specs.Refusals.{stampRefusal, pulseRefusal}
 use Rattle.state.proofs.Parts.{Parts, state-in, state-out, bounded-state}
 use Rattle.state.proofs.Turned.{slots-in, total-in, total-low, turn-state, turn-account, turn-volumes}
 use Rattle.state.proofs.Pulses.{fee-cap}
-use Rattle.state.proofs.Admitted.{admitted-bounds}
+use Rattle.state.proofs.Admitted.{Admitted, stamp-passed}
 
 -- the bounds in parts
 pub state : (m : State) → bounded real m ≡ true → Parts real real-laws m
@@ -41,7 +45,7 @@ state m h = bounded-state real real-laws m h
 
 pub turned-state : (m : State) (s : Stamp) → stampRefusal real m s ≡ Accepted → Parts real real-laws (turn real m s)
 turned-state m s h =
-    let a = admitted-bounds m s h in
+    let a = stamp-passed real m s h in
     turn-state real real-laws m s (not-before-date (m .clock) s (a .2)) (state m (a .0))
 
 -- the slots of a meter within its bounds
@@ -73,7 +77,7 @@ fresh-unloaded m h =
     let h1 : e1 ≡ true = and-right (not (s .one .loaded)) e1 k in
     (not-true (s .one .loaded) (and-left (not (s .one .loaded)) e1 k), not-true (s .two .loaded) (and-left (not (s .two .loaded)) (eqb (s .usage .0) 0) h1))
 
-clocked : (m : State) → bounded real m ≡ true → noClock m ≡ false → isDate (m .clock .date) ≡ true
+pub clocked : (m : State) → bounded real m ≡ true → noClock m ≡ false → isDate (m .clock .date) ≡ true
 unfolding bounded stampGood
 clocked m h q =
     let k : ((isDate (m .clock .date) && leb (m .clock .second) 86399) && stateGood real m) ≡ true = rw q at h in
@@ -104,17 +108,17 @@ pub record PulseRoom (m : State) (n : ℕ) : Type 0 where
   pub few : n ≤ 99999999
   pub total : m .volumes .total .0 + n < 2 ^ 32
   pub unpriced : m .volumes .unpriced .0 + n < 2 ^ 32
-  pub day : m .journal .day .volume .0 + n < 2 ^ 32
-  pub month : m .journal .month .volume .0 + n < 2 ^ 32
-  pub dayCharge : m .journal .day .charge .0 ≤ 99999999 * 99999999
-  pub monthCharge : m .journal .month .charge .0 ≤ 99999999 * 99999999
+  pub day : m .periods .day .volume .0 + n < 2 ^ 32
+  pub month : m .periods .month .volume .0 + n < 2 ^ 32
+  pub dayCharge : m .periods .day .charge .0 ≤ 99999999 * 99999999
+  pub monthCharge : m .periods .month .charge .0 ≤ 99999999 * 99999999
 
 pub pulse-room : (m : State) (n : ℕ) → stateGood real m ≡ true → m .volumes .total .0 + n ≤ 99999999 → PulseRoom m n
 pulse-room m n h t =
     let s = state-in real real-laws m h in
     let a = slots-in real real-laws (m .slots) (m .clock .date) (m .volumes .total .0) (s .slots) in
     let c = account-room (m .account) (m .volumes .total .0) (s .account) (total-low real real-laws m s) in
-    let j = room (m .volumes .total .0) (m .journal) (s .journal) in
+    let j = room (m .volumes .total .0) (m .periods) (s .periods) in
     record {
       one = a .one;
       two = a .two;
@@ -141,18 +145,48 @@ pulses-fit m s n h =
 pub turned-good : (m : State) (s : Stamp) → stampRefusal real m s ≡ Accepted → stateGood real (turn real m s) ≡ true
 turned-good m s h = state-out real real-laws (turn real m s) (turned-state m s h)
 
--- a stamp of the clock's own date turns no day; after a turn the clock is the stamp
-pub same-day : (m : State) (s : Stamp) → s .date ≤ m .clock .date → turn real m s ≡ withClock m s
-unfolding turn
-same-day m s h = rw (le-ltb _ _ h)
+-- the registers after a turn, whether the day turned or not: a stamp of the clock's own date turns no day
+pub turned-clock : (m : State) (s : Stamp) → withClock (alone (registersOf (turn real m s))) s ≡ alone (registersOf (turn real m s))
+unfolding turn turnedTo registersOf stateWith
+turned-clock m s = cases (ltb (m .clock .date) (s .date)) (λ h. rw h) (λ h. rw h)
 
-pub same-day-codes : (m : State) (s : Stamp) → s .date ≤ m .clock .date → turnCodes real m s ≡ []
-unfolding turnCodes
-same-day-codes m s h = rw (le-ltb _ _ h)
+module _ (r : Registers) (words : List ℕ) (s : Stamp) (h : s .date ≤ r .clock .date) where
+  pub same-day : withClock (alone r) s ≡ alone (registersOf (turn real (stateOf r words) s))
+  unfolding turn registersOf stateWith
+  same-day = rw (le-ltb _ _ h)
 
-pub clock-set : (m : State) (s : Stamp) → withClock (turn real m s) s ≡ turn real m s
-unfolding turn turnedTo
-clock-set m s = cases (ltb (m .clock .date) (s .date)) (λ h. rw h) (λ h. rw h)
+  pub same-codes : turnCodes real (stateOf r words) s ≡ []
+  unfolding turnCodes stateWith
+  same-codes = rw (le-ltb _ _ h)
+
+  pub same-words : turnWords r s words ≡ words
+  unfolding turnWords
+  same-words = rw (le-ltb _ _ h)
+
+-- pulses look at no record, and without them the bounds hold too
+pub alone-good : (m : State) → stateGood real m ≡ true → stateGood real (alone (registersOf m)) ≡ true
+unfolding registersOf stateWith freshHeld
+alone-good m h =
+    let p = state-in real real-laws m h in
+    state-out real real-laws (alone (registersOf m)) (record {
+      volumes = p .volumes;
+      account = p .account;
+      slots = p .slots;
+      periods = p .periods;
+      held = fresh-held (m .volumes .total .0) noneHeld none-fresh;
+      idle = p .idle;
+    })
+  where
+    none-fresh : freshHeld noneHeld ≡ true
+    none-fresh = refl
+
+pub pulsed-alone : (m : State) (n : ℕ) → registersOf (pulsed real (alone (registersOf m)) n) ≡ registersOf (pulsed real m n)
+unfolding pulsed registersOf stateWith
+pulsed-alone m n = refl
+
+pub codes-alone : (m : State) (n : ℕ) → pulseCodes real (alone (registersOf m)) n ≡ pulseCodes real m n
+unfolding pulseCodes registersOf stateWith
+codes-alone m n = refl
 
 -- the slot in force on the stamp's date, after the turn and before it
 pub later-force : (m : State) (s : Stamp) → forceOn real (m .slots) (s .date) ≡ forceOn real (turn real m s .slots) (s .date)
@@ -163,7 +197,7 @@ pub same-force :
     (m : State) (s : Stamp) → stampRefusal real m s ≡ Accepted → s .date ≤ m .clock .date →
     forceOn real (m .slots) (m .clock .date) ≡ forceOn real (turn real m s .slots) (s .date)
 same-force m s h l =
-    let e : m .clock .date ≡ s .date = omega (arith, not-before-date (m .clock) s (admitted-bounds m s h .2)) in
+    let e : m .clock .date ≡ s .date = omega (arith, not-before-date (m .clock) s (stamp-passed real m s h .2)) in
     ap (forceOn real (m .slots)) e ∙ later-force m s
 
 -- an account within its bounds

@@ -9,7 +9,7 @@ use Rattle.units.specs.Volume.{highestTotal}
 use Rattle.answer.proofs.Tests.{cases, and-left, and-right, and-false, or-left, or-right, not-true}
 use Rattle.calendar.specs.declared.Stamp.{Stamp}
 use Rattle.account.proofs.Kept.{account-room}
-use Rattle.journal.proofs.Kept.{turned-good}
+use Rattle.records.proofs.Kept.{opened-good, closed-good}
 use Rattle.record.specs.declared.Reading.{Reading}
 use Rattle.slots.specs.declared.Slot.{Slot}
 use Rattle.slots.specs.declared.Slots.{Slots}
@@ -19,7 +19,7 @@ use Rattle.slots.specs.Slots.{inSlot, someForce, keeps, slotsTurned}
 use Rattle.slots.specs.Load.{meetsSlot, loadRefusal, loaded}
 use Rattle.slots.specs.Bounds.{slotGood, apart, slotsGood, idleGood}
 use Rattle.state.specs.declared.Volumes.{Volumes}
-use Rattle.state.specs.declared.State.{State}
+use Rattle.state.specs.State.{State}
 use Rattle.state.specs.Bounds.{noClock, volumesGood}
 use Rattle.state.specs.Turn.{turnedTo, turn}
 use Rattle.state.proofs.Parts.{Parts}
@@ -124,9 +124,12 @@ module _ (w : World) (L : Laws w) where
     account = i .account;
     slots = slots-out (slotsTurned w (m .slots) (m .clock .date) (s .date)) (s .date) (m .volumes .total .0)
         (slots-turned (m .slots) (m .clock .date) (s .date) (m .volumes .total .0) h (slots-in (m .slots) (m .clock .date) (m .volumes .total .0) (i .slots)));
-    journal = cases (noClock m)
-        (λ t. rw t (i .journal))
-        (λ t. rw t (turned-good (m .volumes .total .0) (m .journal) (m .clock .date) (s .date) (m .account .balance) (i .journal)
+    periods = cases (noClock m)
+        (λ t. rw t (i .periods))
+        (λ t. rw t (opened-good (m .volumes .total .0) (m .periods) (m .clock .date) (s .date) (i .periods)));
+    held = cases (noClock m)
+        (λ t. rw t (i .held))
+        (λ t. rw t (closed-good (m .volumes .total .0) (m .held) (m .periods) (m .clock .date) (s .date) (m .account .balance) (i .held) (i .periods)
         (account-room (m .account) (m .volumes .total .0) (i .account) (total-low m i) .bounds)));
     idle = idle-out (turnedTo w m s) (λ t.
         let f : someForce w (m .slots) (s .date) ≡ false = sym (force-turned (m .slots) (m .clock .date) (s .date) (s .date)) ∙ t in
@@ -142,7 +145,8 @@ module _ (w : World) (L : Laws w) where
         volumes = i .volumes;
         account = i .account;
         slots = subst (λ (d : ℕ). slotsGood w (m .slots) d (m .volumes .total .0) ≡ true) q (i .slots);
-        journal = i .journal;
+        periods = i .periods;
+        held = i .held;
         idle = subst (λ (d : ℕ). idleGood w (m .slots) (m .valve .opened) d ≡ true) q (i .idle);
       }))
 

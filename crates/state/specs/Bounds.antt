@@ -5,11 +5,11 @@ use Rattle.units.specs.Volume.{highestTotal}
 use Rattle.calendar.specs.declared.Stamp.{Stamp}
 use Rattle.account.specs.Account.{accountGood, freshAccount}
 use Rattle.account.specs.Valve.{freshValve}
-use Rattle.journal.specs.Bounds.{journalGood, freshJournal}
+use Rattle.records.specs.Bounds.{periodsGood, heldGood, freshPeriods, freshHeld}
 use Rattle.slots.specs.World.{World}
 use Rattle.slots.specs.Bounds.{slotsGood, idleGood, freshSlots}
 use Rattle.state.specs.declared.Volumes.{Volumes}
-use Rattle.state.specs.declared.State.{State}
+use Rattle.state.specs.State.{State}
 
 -- a date in the calendar and a second of 0 to 86,399: refusal 8
 unfoldable pub stampGood : World → Stamp → Bool
@@ -26,7 +26,7 @@ freshVolumes v = eqb (v .total .0) 0 && eqb (v .unpriced .0) 0
 unfoldable pub isFresh : State → Bool
 isFresh m =
     eqb (m .clock .second) 0 && (freshAccount (m .account) && (freshSlots (m .slots) && (freshVolumes (m .volumes)
-    && (freshValve (m .valve) && freshJournal (m .journal)))))
+    && (freshValve (m .valve) && (freshPeriods (m .periods) && freshHeld (m .held))))))
 
 -- "total is at most 99,999,999, every other volume .. at most the total"
 unfoldable pub volumesGood : Volumes → Bool
@@ -38,7 +38,8 @@ unfoldable pub stateGood : World → State → Bool
 stateGood w m =
     volumesGood (m .volumes) && (accountGood (m .account) (m .volumes .total .0)
     && (slotsGood w (m .slots) (m .clock .date) (m .volumes .total .0)
-    && (journalGood (m .volumes .total .0) (m .journal) && idleGood w (m .slots) (m .valve .opened) (m .clock .date))))
+    && (periodsGood (m .volumes .total .0) (m .periods) && (heldGood (m .volumes .total .0) (m .held)
+    && idleGood w (m .slots) (m .valve .opened) (m .clock .date)))))
 
 -- "without a clock it is the fresh one. Otherwise clock .. as the refusals allow" and the state within its bounds
 unfoldable pub bounded : World → State → Bool

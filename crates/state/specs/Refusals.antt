@@ -16,7 +16,7 @@ use Rattle.calendar.specs.Stamp.{notBefore}
 use Rattle.slots.specs.World.{World}
 use Rattle.slots.specs.Slots.{someForce}
 use Rattle.state.specs.declared.Volumes.{Volumes}
-use Rattle.state.specs.declared.State.{State}
+use Rattle.state.specs.State.{State}
 use Rattle.state.specs.Bounds.{bounded, stampGood}
 
 -- "0, the meter handed in breaks its bounds; 8, bad date or second; 9, stamp before the last accepted one. These come in this order

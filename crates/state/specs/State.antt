@@ -1,8 +1,8 @@
 -- Document 01, "The billing machine": "State: clock, balance, total volume, unpriced volume, last serial, two plan slots, cycle usage,
 -- alarms, station mark, valve, 62 day records .., 120 month records, the open day and month."
 use mathlib.Core.Bool.{true, false}
+use mathlib.Core.List.{List}
 use Prim.Native.Nat.{ℕ}
-use lib.ListN.{replicate}
 use lib.IntN.{pos}
 use Rattle.units.specs.Volume.{volume}
 use Rattle.units.specs.Money.{money}
@@ -10,12 +10,52 @@ use Rattle.calendar.specs.declared.Stamp.{Stamp}
 use Rattle.plan.specs.Plan.{noPlan}
 use Rattle.account.specs.declared.Account.{Account}
 use Rattle.account.specs.declared.Valve.{Valve}
-use Rattle.journal.specs.declared.Journal.{Journal}
-use Rattle.journal.specs.Records.{noRecord, nothing}
+use Rattle.records.specs.declared.Periods.{Periods}
+use Rattle.records.specs.Records.{Held, noPeriods, noneHeld}
+use Rattle.records.specs.Words.{heldOf}
 use Rattle.slots.specs.declared.Slot.{Slot}
 use Rattle.slots.specs.declared.Slots.{Slots}
 use Rattle.state.specs.declared.Volumes.{Volumes}
-use Rattle.state.specs.declared.State.{State}
+use Rattle.state.specs.declared.Registers.{Registers}
+
+-- the open day and month are `periods`, the day and month records `held`
+pub record State : Type 0 where
+  pub clock : Stamp
+  pub account : Account
+  pub slots : Slots
+  pub volumes : Volumes
+  pub valve : Valve
+  pub periods : Periods
+  pub held : Held
+
+-- the code keeps the rest of the state as registers, and the held records as words beside them
+unfoldable pub stateWith : Registers → Held → State
+stateWith r h = record {
+  clock = r .clock;
+  account = r .account;
+  slots = r .slots;
+  volumes = r .volumes;
+  valve = r .valve;
+  periods = r .periods;
+  held = h;
+}
+
+abbrev pub stateOf : Registers → List ℕ → State
+stateOf r words = stateWith r (heldOf words)
+
+-- of a rule that looks at no record
+abbrev pub alone : Registers → State
+alone r = stateWith r noneHeld
+
+unfoldable pub registersOf : State → Registers
+registersOf m = record {
+  clock = m .clock;
+  account = m .account;
+  slots = m .slots;
+  volumes = m .volumes;
+  valve = m .valve;
+  periods = m .periods;
+}
 
 abbrev pub noSlot : Slot
 noSlot = record { loaded = false; plan = noPlan }
@@ -28,23 +68,19 @@ fresh = record {
   slots = record { one = noSlot; two = noSlot; usage = volume 0 };
   volumes = record { total = volume 0; unpriced = volume 0 };
   valve = record { allow = true; opened = false };
-  journal = record {
-    day = nothing;
-    month = nothing;
-    days = record { count = 0; held = replicate 62 noRecord };
-    months = record { count = 0; held = replicate 120 noRecord };
-  };
+  periods = noPeriods;
+  held = noneHeld;
 }
 
 -- one group of the meter replaced
 abbrev pub withClock : State → Stamp → State
-withClock m c = record { clock = c; account = m .account; slots = m .slots; volumes = m .volumes; valve = m .valve; journal = m .journal }
+withClock m c = record { clock = c; account = m .account; slots = m .slots; volumes = m .volumes; valve = m .valve; periods = m .periods; held = m .held }
 
 abbrev pub withAccount : State → Account → State
-withAccount m a = record { clock = m .clock; account = a; slots = m .slots; volumes = m .volumes; valve = m .valve; journal = m .journal }
+withAccount m a = record { clock = m .clock; account = a; slots = m .slots; volumes = m .volumes; valve = m .valve; periods = m .periods; held = m .held }
 
 abbrev pub withSlots : State → Slots → State
-withSlots m s = record { clock = m .clock; account = m .account; slots = s; volumes = m .volumes; valve = m .valve; journal = m .journal }
+withSlots m s = record { clock = m .clock; account = m .account; slots = s; volumes = m .volumes; valve = m .valve; periods = m .periods; held = m .held }
 
 abbrev pub withValve : State → Valve → State
-withValve m v = record { clock = m .clock; account = m .account; slots = m .slots; volumes = m .volumes; valve = v; journal = m .journal }
+withValve m v = record { clock = m .clock; account = m .account; slots = m .slots; volumes = m .volumes; valve = v; periods = m .periods; held = m .held }

@@ -5,11 +5,12 @@ use Prim.Native.Nat.{ℕ}
 use lib.Dec.{ltb, eqb}
 use Rattle.calendar.specs.declared.Stamp.{Stamp}
 use Rattle.account.specs.Valve.{valveKept, expiryCodes}
-use Rattle.journal.specs.Turn.{turned}
+use Rattle.records.specs.Turn.{opened, closed}
+use Rattle.records.specs.Moves.{closedWords}
 use Rattle.slots.specs.World.{World}
 use Rattle.slots.specs.Slots.{someForce, slotsTurned}
-use Rattle.state.specs.declared.State.{State}
-use Rattle.state.specs.State.{withClock}
+use Rattle.state.specs.declared.Registers.{Registers}
+use Rattle.state.specs.State.{State, withClock}
 use Rattle.state.specs.Bounds.{noClock}
 
 -- a later date: the open day becomes a record, and a later month likewise; usage is kept or begins at 0; with no plan in force an open
@@ -21,7 +22,8 @@ turnedTo w m s = record {
   slots = slotsTurned w (m .slots) (m .clock .date) (s .date);
   volumes = m .volumes;
   valve = valveKept (m .valve) (someForce w (m .slots) (s .date));
-  journal = cond (noClock m) (m .journal) (turned (m .journal) (m .clock .date) (s .date) (m .account .balance));
+  periods = cond (noClock m) (m .periods) (opened (m .periods) (m .clock .date) (s .date));
+  held = cond (noClock m) (m .held) (closed (m .held) (m .periods) (m .clock .date) (s .date) (m .account .balance));
 }
 
 -- "If its date is later than the clock's ..; then the clock takes the stamp."
@@ -32,3 +34,9 @@ unfoldable pub turnCodes : World → State → Stamp → List ℕ
 turnCodes w m s =
     cond (ltb (m .clock .date) (s .date))
     (expiryCodes (someForce w (m .slots) (m .clock .date)) (someForce w (m .slots) (s .date)) (m .valve .opened)) []
+
+-- the words that hold the records, after the turn
+unfoldable pub turnWords : Registers → Stamp → List ℕ → List ℕ
+turnWords r s h =
+    cond (ltb (r .clock .date) (s .date))
+    (cond (eqb (r .clock .date) 0) h (closedWords (r .periods) (r .clock .date) (s .date) (r .account .balance) h)) h

@@ -1,9 +1,12 @@
 // Document 01, "Bounds of a meter": what a meter that a host hands in must keep.
-use crate::State;
+use crate::Registers;
 use crate::Volumes;
+use records::held;
+use records::held::Words;
 ghost use mathlib.Core.Path.{_≡_};
 ghost use Rattle.slots.specs.World.{real};
 ghost use Rattle.slots.specs.Slots.{someForce};
+ghost use Rattle.state.specs.State.{stateOf};
 ghost use Rattle.state.specs.Bounds.{freshVolumes, isFresh, volumesGood, stateGood, bounded};
 
 impl Volumes {
@@ -20,43 +23,45 @@ impl Volumes {
     }
 }
 
-impl State {
-    fn is_fresh(self) -> bool
-        ensures { λ r. ⌜ r ≡ isFresh self ⌝ }
+impl Registers {
+    fn is_fresh(self, words: &Words) -> bool
+        ensures { λ r. ⌜ r ≡ isFresh (stateOf self (now (words .entry))) ⌝ }
     {
         self.clock.second == 0
             && (self.account.is_fresh()
                 && (self.slots.is_fresh()
                     && (self.volumes.is_fresh()
-                        && (self.valve.is_fresh() && self.journal.is_fresh()))))
+                        && (self.valve.is_fresh()
+                            && (self.periods.is_fresh() && held::is_fresh(words))))))
     }
 
-    fn state_good(self, some: bool) -> bool
+    fn state_good(self, words: &Words, some: bool) -> bool
         requires { ⌜ some ≡ someForce real (self .slots) (self .clock .date) ⌝ }
-        ensures { λ r. ⌜ r ≡ stateGood real self ⌝ }
+        ensures { λ r. ⌜ r ≡ stateGood real (stateOf self (now (words .entry))) ⌝ }
     {
         self.volumes.is_good()
             && (self.account.is_good(self.volumes.total)
                 && (self.slots.is_good(self.clock.date, self.volumes.total)
-                    && (self.journal.is_good(self.volumes.total)
-                        && self.slots.idle_good(some, self.valve.opened))))
+                    && (self.periods.is_good(self.volumes.total)
+                        && (held::is_good(words, self.volumes.total)
+                            && self.slots.idle_good(some, self.valve.opened)))))
     }
 
     // Whether the meter is within its bounds, `some` being whether a plan is in force on the clock's date.
-    pub(crate) fn bounded_on(self, some: bool) -> bool
+    pub(crate) fn bounded_on(self, words: &Words, some: bool) -> bool
         requires { ⌜ some ≡ someForce real (self .slots) (self .clock .date) ⌝ }
-        ensures { λ r. ⌜ r ≡ bounded real self ⌝ }
+        ensures { λ r. ⌜ r ≡ bounded real (stateOf self (now (words .entry))) ⌝ }
     {
         if self.clock.date == 0 {
-            return self.is_fresh();
+            return self.is_fresh(words);
         }
-        self.clock.is_stamp() && self.state_good(some)
+        self.clock.is_stamp() && self.state_good(words, some)
     }
 
     // Whether the meter is within its bounds: refusal 0 where it is not.
-    pub fn is_bounded(self) -> bool
-        ensures { λ r. ⌜ r ≡ bounded real self ⌝ }
+    pub fn is_bounded(self, words: &Words) -> bool
+        ensures { λ r. ⌜ r ≡ bounded real (stateOf self (now (words .entry))) ⌝ }
     {
-        self.bounded_on(self.slots.some_force(self.clock.date))
+        self.bounded_on(words, self.slots.some_force(self.clock.date))
     }
 }

@@ -19,10 +19,10 @@ use crate::setup::FULL;
 use crate::setup::PLANNED;
 use crate::setup::READY;
 use crate::setup::TWICE;
-use journal::Fetched;
-use journal::Heavy;
 use meter::Meter;
 use record::Choice;
+use records::Fetched;
+use records::Heavy;
 use slots::Stepped;
 use units::Hundredths;
 
@@ -156,7 +156,9 @@ fn settings(c: Count) -> Count {
 
 // The number of a query's refusal on a fresh meter, and PASS where there is none.
 fn step() -> u32 {
-    let s = query::step(Meter::fresh());
+    let m = Meter::fresh();
+    let held = m.held;
+    let s = query::step(m.machine.registers, &held);
     match s {
         Stepped::At(_) => PASS,
         Stepped::Refused(n) => n as u32,
@@ -171,16 +173,22 @@ fn fetched(f: Fetched) -> u32 {
 }
 
 fn day() -> u32 {
-    fetched(query::day(Meter::fresh(), 0))
+    let m = Meter::fresh();
+    let held = m.held;
+    fetched(query::day(m.machine.registers, &held, 0))
 }
 
 fn month() -> u32 {
-    fetched(query::month(Meter::fresh(), 0))
+    let m = Meter::fresh();
+    let held = m.held;
+    fetched(query::month(m.machine.registers, &held, 0))
 }
 
 fn heavy() -> u32 {
     let v = Hundredths(0);
-    let h = query::heavy(Meter::fresh(), v);
+    let m = Meter::fresh();
+    let held = m.held;
+    let h = query::heavy(m.machine.registers, &held, v);
     match h {
         Heavy::Day(_, _) => PASS,
         Heavy::NoDay(n) => n as u32,

@@ -2,15 +2,14 @@
 use account::Account;
 use account::Valve;
 use calendar::Stamp;
-use journal::Days;
-use journal::Journal;
-use journal::Months;
-use journal::Record;
-use journal::Tally;
+use meter::Meter;
 use plan::Plan;
+use records::Periods;
+use records::Tally;
+use records::held::Words;
 use slots::Slot;
 use slots::Slots;
-use state::State;
+use state::Registers;
 use state::Volumes;
 
 fn clocks(x: Stamp, y: Stamp) -> bool {
@@ -65,52 +64,34 @@ fn tallies(x: Tally, y: Tally) -> bool {
     (x.volume.0 == y.volume.0) & (x.charge.0 == y.charge.0)
 }
 
-fn records(x: Record, y: Record) -> bool {
-    (x.date == y.date)
-        & (x.volume.0 == y.volume.0)
-        & (x.charge.0 == y.charge.0)
-        & (x.closing.0 == y.closing.0)
+fn periods(x: Periods, y: Periods) -> bool {
+    tallies(x.day, y.day) & tallies(x.month, y.month)
 }
 
-// Records beyond the count are no part of the state.
-fn days(x: Days, y: Days) -> bool {
-    let n = x.count;
-    let mut same = n == y.count;
-    let mut i = 0;
-    while i < 62 {
-        let a = x.held[i];
-        let b = y.held[i];
-        same = same & ((n <= i) | records(a, b));
+// Every word, those behind the records that are held too.
+fn words(x: Words, y: Words) -> bool {
+    let mut same = true;
+    let mut i = 0usize;
+    while i < 548 {
+        let v = x[i];
+        let w = y[i];
+        same = same & (v == w);
         i += 1;
     }
     same
 }
 
-fn months(x: Months, y: Months) -> bool {
-    let n = x.count;
-    let mut same = n == y.count;
-    let mut i = 0;
-    while i < 120 {
-        let a = x.held[i];
-        let b = y.held[i];
-        same = same & ((n <= i) | records(a, b));
-        i += 1;
-    }
-    same
-}
-
-fn journals(x: Journal, y: Journal) -> bool {
-    tallies(x.day, y.day)
-        & tallies(x.month, y.month)
-        & days(x.days, y.days)
-        & months(x.months, y.months)
-}
-
-pub fn states(x: State, y: State) -> bool {
+fn registers(x: Registers, y: Registers) -> bool {
     clocks(x.clock, y.clock)
         & accounts(x.account, y.account)
         & slots(x.slots, y.slots)
         & volumes(x.volumes, y.volumes)
         & valves(x.valve, y.valve)
-        & journals(x.journal, y.journal)
+        & periods(x.periods, y.periods)
+}
+
+pub fn meters(x: Meter, y: Meter) -> bool {
+    let v = x.held;
+    let w = y.held;
+    registers(x.machine.registers, y.machine.registers) & words(v, w)
 }

@@ -1,9 +1,11 @@
 // The records, and the meters that the checks begin with.
+use crate::run;
 use account::Account;
 use calendar::Stamp;
 use meter::Command;
 use meter::Key;
 use meter::Load;
+use meter::Machine;
 use meter::Meter;
 use meter::Pulses;
 use meter::Recharge;
@@ -67,7 +69,7 @@ pub fn at(date: u32, second: u32) -> Stamp {
 fn loaded(date: u32, record: &[u8; 66]) -> Meter {
     let m = Meter::fresh();
     let stamp = at(date, 0);
-    let o = m.load(Load { stamp, slot: 1 }, record);
+    let o = run::load(m, Load { stamp, slot: 1 }, record);
     o.meter
 }
 
@@ -84,42 +86,50 @@ fn tabled() -> Meter {
 fn recharged(m: Meter, serial: u32) -> Meter {
     let stamp = at(20_200_115, 0);
     let amount = TenThousandths(1_000_000);
-    let o = m.recharge(Recharge {
-        stamp,
-        amount,
-        serial,
-    });
+    let o = run::recharge(
+        m,
+        Recharge {
+            stamp,
+            amount,
+            serial,
+        },
+    );
     o.meter
 }
 
 fn ready() -> Meter {
     let m = recharged(planned(), 1);
     let stamp = at(20_200_115, 0);
-    let o = m.key(Key { stamp });
+    let o = run::key(m, Key { stamp });
     o.meter
 }
 
 fn forbidden() -> Meter {
     let m = ready();
     let stamp = at(20_200_115, 0);
-    let o = m.command(Command { stamp, code: 0 });
+    let o = run::command(m, Command { stamp, code: 0 });
     o.meter
 }
 
 fn with_total(n: u32) -> Meter {
     let m = ready();
-    let mut state = m.state;
+    let held = m.held;
+    let mut registers = m.machine.registers;
     let total = Hundredths(n);
     let unpriced = Hundredths(0);
     let v = Volumes { total, unpriced };
-    state.volumes = v;
-    Meter { state }
+    registers.volumes = v;
+    Meter {
+        machine: Machine { registers },
+        held,
+    }
 }
 
 // Ready, with one pulse in the total and a balance that the host put there.
 pub fn with_balance(n: i64) -> Meter {
     let m = with_total(1);
-    let mut state = m.state;
+    let held = m.held;
+    let mut registers = m.machine.registers;
     let balance = Millionths(n);
     let a = Account {
         balance,
@@ -127,14 +137,17 @@ pub fn with_balance(n: i64) -> Meter {
         one: 20,
         two: 5,
     };
-    state.account = a;
-    Meter { state }
+    registers.account = a;
+    Meter {
+        machine: Machine { registers },
+        held,
+    }
 }
 
 fn pulsed(m: Meter, date: u32, second: u32, n: u32) -> Meter {
     let stamp = at(date, second);
     let count = Hundredths(n);
-    let o = m.pulses(Pulses { stamp, count });
+    let o = run::pulses(m, Pulses { stamp, count });
     o.meter
 }
 
@@ -151,7 +164,7 @@ fn february() -> Meter {
 pub fn march() -> Meter {
     let m = february();
     let stamp = at(20_200_301, 0);
-    let o = m.tick(Tick { stamp });
+    let o = run::tick(m, Tick { stamp });
     o.meter
 }
 

@@ -15,8 +15,8 @@ use crate::setup::PLANNED;
 use crate::setup::READY;
 use crate::setup::RECHARGED;
 use crate::setup::TABLED;
-use journal::Fetched;
 use query::Displayed;
+use records::Fetched;
 use slots::Stepped;
 
 fn pulse_limit(c: Count) -> Count {
@@ -58,7 +58,9 @@ fn overlap(c: Count) -> Count {
 
 // Whether the meter's step has this number and price.
 fn step(k: u32, number: u8, price: u64) -> bool {
-    let s = query::step(setup::meter(k));
+    let m = setup::meter(k);
+    let held = m.held;
+    let s = query::step(m.machine.registers, &held);
     match s {
         Stepped::At(p) => (p.number == number) & (p.price.0 == price),
         Stepped::Refused(_) => false,
@@ -79,7 +81,9 @@ fn midnight(c: Count) -> Count {
 
 // Whether month record k on 20200301 has this date, volume and charge.
 fn holds(k: usize, date: u32, volume: u32, charge: u64) -> bool {
-    let f = query::month(setup::march(), k);
+    let m = setup::march();
+    let held = m.held;
+    let f = query::month(m.machine.registers, &held, k);
     match f {
         Fetched::Held(r) => (r.date == date) & (r.volume.0 == volume) & (r.charge.0 == charge),
         Fetched::Refused(_) => false,
@@ -95,7 +99,9 @@ fn months(c: Count) -> Count {
 
 // Whether the display shows this many ten-thousandths of a yuan for a balance.
 fn shows(balance: i64, n: i64) -> bool {
-    let d = query::display(setup::with_balance(balance));
+    let m = setup::with_balance(balance);
+    let held = m.held;
+    let d = query::display(m.machine.registers, &held);
     match d {
         Displayed::Shows(s) => s.0 == n,
         Displayed::Refused(_) => false,

@@ -7,6 +7,7 @@ use Rattle.report.specs.Lines.{stepLine, displayLine, recordLine}
 use Rattle.clerk.specs.Clerk.{Said}
 use Rattle.clerk.proofs.Halves.{call-said}
 use borrow.Author.Needs.{needs}
+use Rattle.state.specs.State.{stateOf}
 use Rattle.clerk.proofs.answered.Statement.{statement}
 use Rattle.clerk.proofs.answered.Tie as tie
 
@@ -161,7 +162,7 @@ returns-9 c =
     let w = c .before .before in
     let p = w .call-line .ensures in
     let a = w .before .before .before .before .args in
-    (p .1, (_, call-said (a .m) (a .number) (a .done) (a .order) (w .before .before .match .keys9), p .0, p .2))
+    (p .1, (_, call-said (stateOf (a .m) (a .words .now)) (a .number) (a .done) (a .order) (w .before .before .match .keys9), p .0, p .2))
 
 pub answered-spec : {M : Type 1} → statement M
 answered-spec =

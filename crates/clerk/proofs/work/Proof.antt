@@ -22,7 +22,7 @@ same-length-2 c = search needs
 returns : tie.Need-returns
 returns c =
     let w = c .before .before in
-    let p = w .before .before .before .before .before in
+    let p = w .before .before .before .before .before .before in
     let o = p .before .before .before .before in
     let a = o .before .before .before .before .before .args in
     let q = o .parse .ensures in

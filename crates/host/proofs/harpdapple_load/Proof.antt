@@ -5,15 +5,15 @@ use mathlib.Core.List.{List}
 use contract.Running.{givenOf, tables, tablesOf}
 use denote.Triple.Spec.{tripleOf}
 use denote.Triple.Table.{entered, cited}
-use Rattle.meter.specs.Call.{load as called}
-use Rattle.meter.specs.Machine.{outcome}
-use Rattle.meter.specs.declared.Meter.{Meter}
-use Rattle.meter.specs.declared.Outcome.{Outcome}
+use Rattle.meter.specs.Call.{load as call}
+use Rattle.meter.specs.Machine.{meterOf, outcome}
+use Rattle.meter.specs.declared.Machine.{Machine}
+use Rattle.meter.specs.declared.Done.{Done}
 use Rattle.meter.specs.declared.Load.{Load}
 use Rattle.meter.proofs.Load as P
 use Rattle.meter.proofs.Load.Laws as P′
-use Rattle.meter.proofs.Meter.load.Symbol as method
-use Rattle.meter.proofs.Meter.load.Met as method-thm
+use Rattle.meter.proofs.Machine.load.Symbol as method
+use Rattle.meter.proofs.Machine.load.Met as method-thm
 use Rattle.host.proofs.Kind.{Param, struct}
 use Rattle.host.proofs.Lent.{Teller}
 use Rattle.host.proofs.LentSlice.{Method, lent-meets}
@@ -28,8 +28,8 @@ use Rattle.host.proofs.harpdapple_load.Code as code
 abbrev passed : Param
 passed = struct record { type = P.the-type; laws = P′.the-laws; plain = P′.the-plain; copy = P′.the-copy }
 
-abbrev step : Meter → Load → List ℕ → Outcome
-step m p s = outcome m (called p s)
+abbrev step : Machine → List ℕ → Load → List ℕ → Machine × List ℕ × Done
+step s w p bytes = let o = outcome (meterOf s w) (call p bytes) in (o .meter .machine, o .meter .held, o .done)
 
 pub harpdapple-load-spec : {M : Type 1} → stated.statement M
 unfolding code.routine tablesOf
@@ -38,4 +38,4 @@ harpdapple-load-spec 𝓤 H 𝓜 𝓖 𝓡 =
     (tables 𝓤 H 𝓜 𝓡 code.env .C) (tables 𝓤 H 𝓜 𝓡 code.env .Λ) key.name code.function (code.unfolded 𝓤 H 𝓜 𝓡)
     (lent-meets metered passed step 𝓤 H (𝓖 .A) (givenOf 𝓤 H 𝓜 𝓖) (tablesOf 𝓤 H 𝓜 (tables 𝓤 H 𝓜 𝓡 code.env))
     (cited 𝓤 H (Teller metered 𝓤 H (𝓖 .A)) 𝓜 𝓡 code.env teller.name teller.routine code.calls-host·reply-of (teller-thm.met 𝓤 H 𝓜 𝓖 𝓡)) method.name
-    (cited 𝓤 H (Method metered passed step 𝓤 H (𝓖 .A)) 𝓜 𝓡 code.env method.name method.routine code.calls-meter·Meter·load (method-thm.met 𝓤 H 𝓜 𝓖 𝓡)))
+    (cited 𝓤 H (Method metered passed step 𝓤 H (𝓖 .A)) 𝓜 𝓡 code.env method.name method.routine code.calls-meter·Machine·load (method-thm.met 𝓤 H 𝓜 𝓖 𝓡)))

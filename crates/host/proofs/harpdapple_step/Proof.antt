@@ -1,17 +1,20 @@
 -- `host::harpdapple_step` meets its contract: it is `Seen.antt`'s `thin` over `step_reply`.
 -- Assumes nothing.
 use mathlib.Core.Path.{_≡_}
+use Prim.Native.Nat.{ℕ}
+use mathlib.Core.List.{List}
 use contract.Running.{givenOf, tables, tablesOf}
 use denote.Triple.Spec.{tripleOf}
 use denote.Triple.Table.{entered, cited}
-use Rattle.meter.specs.declared.Meter.{Meter}
+use Rattle.meter.specs.declared.Machine.{Machine}
+use Rattle.meter.specs.Machine.{meterOf, stateIn}
 use Rattle.query.specs.Queries.{stepAnswer}
 use Rattle.host.specs.declared.StepReply.{StepReply}
 use Rattle.host.specs.Replies.{stepReplyOf}
 use Rattle.host.proofs.StepReply as R
 use Rattle.host.proofs.StepReply.Laws as R′
 use Rattle.host.proofs.Kind.{Kind}
-use Rattle.host.proofs.Metered.{meter}
+use Rattle.host.proofs.Metered.{parted}
 use Rattle.host.proofs.Seen.{Asked, seen-meets}
 use Rattle.host.proofs.step_reply.Symbol as query
 use Rattle.host.proofs.step_reply.Met as query-thm
@@ -23,13 +26,13 @@ use Rattle.host.proofs.harpdapple_step.Code as code
 abbrev reply : Kind
 reply = record { type = R.the-type; laws = R′.the-laws; plain = R′.the-plain; copy = R′.the-copy }
 
-abbrev told : Meter → StepReply → Type 0
-told m r = r ≡ stepReplyOf (stepAnswer m)
+abbrev told : Machine → List ℕ → StepReply → Type 0
+told s w r = r ≡ stepReplyOf (stepAnswer (stateIn (meterOf s w)))
 
 pub harpdapple-step-spec : {M : Type 1} → stated.statement M
 unfolding code.routine tablesOf
 harpdapple-step-spec 𝓤 H 𝓜 𝓖 𝓡 =
     entered 𝓤 H (tripleOf 𝓤 H (𝓖 .A) f.signature (f.spec 𝓤 H (𝓖 .A) (𝓜 .mem) (𝓡 .run)))
     (tables 𝓤 H 𝓜 𝓡 code.env .C) (tables 𝓤 H 𝓜 𝓡 code.env .Λ) key.name code.function (code.unfolded 𝓤 H 𝓜 𝓡)
-    (seen-meets meter reply told 𝓤 H (𝓖 .A) (givenOf 𝓤 H 𝓜 𝓖) (tablesOf 𝓤 H 𝓜 (tables 𝓤 H 𝓜 𝓡 code.env)) query.name
-    (cited 𝓤 H (Asked meter reply told 𝓤 H (𝓖 .A)) 𝓜 𝓡 code.env query.name query.routine code.calls-host·step-reply (query-thm.met 𝓤 H 𝓜 𝓖 𝓡)))
+    (seen-meets parted reply told 𝓤 H (𝓖 .A) (givenOf 𝓤 H 𝓜 𝓖) (tablesOf 𝓤 H 𝓜 (tables 𝓤 H 𝓜 𝓡 code.env)) query.name
+    (cited 𝓤 H (Asked parted reply told 𝓤 H (𝓖 .A)) 𝓜 𝓡 code.env query.name query.routine code.calls-host·step-reply (query-thm.met 𝓤 H 𝓜 𝓖 𝓡)))

@@ -44,9 +44,9 @@ use denote.Triple.Spec.{Meets, tripleOf}
 use denote.Triple.Table.{entered, cited}
 use denote.Triple.Walked.{says, Stays, stay-none-slice, walkOf, goes-none-slice, Walks, ends-at, walked, walk-meets}
 use denote.Exit.{yes}
-use Rattle.journal.specs.declared.Record.{Record}
-use Rattle.journal.proofs.Record as D
-use Rattle.journal.proofs.Record.Laws as D′
+use Rattle.records.specs.declared.Record.{Record}
+use Rattle.records.proofs.Record as D
+use Rattle.records.proofs.Record.Laws as D′
 use Rattle.units.specs.declared.Hundredths.{Hundredths}
 use Rattle.units.proofs.Hundredths as U
 use Rattle.units.proofs.Hundredths.Laws as U′

@@ -1,6 +1,7 @@
 -- The lines are put one behind another.
 use native.Mathlib.Omega.{arith}
 use borrow.Author.Needs.{needs}
+use Rattle.state.specs.State.{stateWith}
 use Rattle.showing.specs.Show.{showLines}
 use Rattle.place.proofs.Placed.{then, first}
 use Rattle.showing.proofs.show.Statement.{statement}
@@ -28,7 +29,7 @@ same-length : tie.Need-same-length
 same-length c = search needs
 
 returns : tie.Need-returns
-unfolding showLines
+unfolding showLines stateWith
 returns c =
     let d = c .before .before in
     let v = d .before .before .before .before in

@@ -15,7 +15,7 @@ ran-requires c κs = search needs
 
 returns : tie.Need-returns
 unfolding enteredBook
-returns c = c .ran .ensures ∙ unfed (c .before .before .args .self) (call (c .before .before .args .p)) _ (c .before .alarms .ensures) refl
+returns c = c .ran .ensures ∙ unfed (c .before .before .before .before .args .self) (call (c .before .before .before .before .args .p)) _ _ (c .before .alarms .ensures) refl
 
 pub alarms-spec : {M : Type 1} → statement M
 alarms-spec = tie.close (tie.spec alarms-requires ran-requires returns)

@@ -15,7 +15,7 @@ ran-requires c κs = search needs
 
 returns : tie.Need-returns
 unfolding enteredBook
-returns c = c .ran .ensures ∙ unfed (c .before .before .args .self) (call (c .before .before .args .p)) _ (c .before .command .ensures) refl
+returns c = c .ran .ensures ∙ unfed (c .before .before .before .before .args .self) (call (c .before .before .before .before .args .p)) _ _ (c .before .command .ensures) refl
 
 pub command-spec : {M : Type 1} → statement M
 command-spec = tie.close (tie.spec command-requires ran-requires returns)

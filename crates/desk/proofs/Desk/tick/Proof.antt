@@ -15,7 +15,7 @@ ran-requires c κs = search needs
 
 returns : tie.Need-returns
 unfolding enteredBook
-returns c = c .ran .ensures ∙ unfed (c .before .before .args .self) (call (c .before .before .args .p)) _ (c .before .tick .ensures) refl
+returns c = c .ran .ensures ∙ unfed (c .before .before .before .before .args .self) (call (c .before .before .before .before .args .p)) _ _ (c .before .tick .ensures) refl
 
 pub tick-spec : {M : Type 1} → statement M
 tick-spec = tie.close (tie.spec tick-requires ran-requires returns)

@@ -1,4 +1,0 @@
-pub mod Records
-pub mod Turn
-pub mod Bounds
-pub mod Queries
