@@ -3,10 +3,10 @@ use mathlib.Core.Path.{_≡_, sym}
 use mathlib.Core.Bool.{true}
 use Prim.Native.Nat.{_-_, _≤_}
 use native.Mathlib.Omega.{arith}
-use Rattle.plan.specs.Rules.{every, pairGood}
-use Rattle.plan.proofs.Flags.{passes, fails}
-use Rattle.plan.proofs.Every.{every-none, every-more, every-fails}
+use borrow.Author.Tests.{le-leb, lt-leb}
 use borrow.Author.Needs.{needs}
+use Rattle.plan.specs.Rules.{every, pairGood}
+use Rattle.plan.proofs.Every.{every-none, every-more, every-fails}
 use Rattle.plan.proofs.Plan.pairs_good.Statement.{statement}
 use Rattle.plan.proofs.Plan.pairs_good.Tie as tie
 
@@ -16,36 +16,32 @@ Inv-loop self n i₀ i = (i ≤ n) × (every (pairGood self) i ≡ true)
 abbrev μ-loop : tie.MeasureT-loop
 μ-loop self n i₀ i = n - i
 
-cast-n : tie.Need-cast-n Inv-loop μ-loop
-cast-n c = search needs
-
 loop-holds : tie.Need-loop-holds Inv-loop μ-loop
 loop-holds c = (search needs, every-none _)
 
-pair-good-requires : tie.Need-pair-good-requires Inv-loop μ-loop
-pair-good-requires c κs = search needs
-
 returns : tie.Need-returns Inv-loop μ-loop
 returns c =
-    let l = c .before .before .before in
-    let s = l .before .before .args .self in
-    sym (every-fails (pairGood s) (s .steps) (l .loop .i) (omega arith) (fails (c .before .pair-good .ensures) (c .if1 .taken)))
-
-add-i : tie.Need-add-i Inv-loop μ-loop
-add-i c = search needs
-
-loop-less : tie.Need-loop-less Inv-loop μ-loop
-loop-less c = search needs
-
-loop-again : tie.Need-loop-again Inv-loop μ-loop
-loop-again c =
-    let l = c .before .before .before in
-    let s = l .before .before .args .self in
-    (search needs, every-more (pairGood s) (l .loop .i) (l .loop .inv .1) (passes (c .before .pair-good .ensures) (c .if1 .left)))
+    let l = c .before .before .before .before .before in
+    let s = l .before .args .t1 in
+    sym (every-fails (pairGood s) (s .steps) (l .loop .i) (omega arith) (rw (lt-leb _ _ (c .if1 .taken))))
 
 returns-2 : tie.Need-returns-2 Inv-loop μ-loop
 returns-2 c =
-    let e : c .before .loop .i ≡ c .before .before .before .args .self .steps = omega arith in
+    let w = c .before .before in
+    let l = w .before .before .before .before .before in
+    let s = l .before .args .t1 in
+    sym (every-fails (pairGood s) (s .steps) (l .loop .i) (omega arith) (rw (le-leb _ _ (w .if1 .left), lt-leb _ _ (c .if2 .taken))))
+
+loop-again : tie.Need-loop-again Inv-loop μ-loop
+loop-again c =
+    let w = c .before .before in
+    let l = w .before .before .before .before .before in
+    let s = l .before .args .t1 in
+    (search needs, every-more (pairGood s) (l .loop .i) (l .loop .inv .1) (rw (le-leb _ _ (w .if1 .left), le-leb _ _ (c .if2 .left))))
+
+returns-3 : tie.Need-returns-3 Inv-loop μ-loop
+returns-3 c =
+    let e : c .before .loop .i ≡ c .before .before .args .t1 .steps = omega arith in
     sym (rw e at (c .before .loop .inv .1))
 
 pub pairs-good-spec : {M : Type 1} → statement M
@@ -54,11 +50,15 @@ pairs-good-spec =
     (tie.spec
     Inv-loop
     μ-loop
-    cast-n
+    (search needs)
     loop-holds
-    pair-good-requires
+    (search needs)
+    (search needs)
+    (search needs)
+    (search needs)
     returns
-    add-i
-    loop-less
+    returns-2
+    (search needs)
+    (search needs)
     loop-again
-    returns-2)
+    returns-3)
