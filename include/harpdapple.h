@@ -146,7 +146,10 @@ struct harpdapple_tally {
     uint64_t charge; /* millionths of a yuan */
 };
 
-/* Records, the newest at 0; those from `count` on are not held and mean nothing. */
+/*
+ * Records, the newest at 0; those from `count` on are not held and mean nothing. The library keeps counts and records as
+ * 64-bit words, date and volume in one: these structs show them on a little-endian machine, for which the archive is built.
+ */
 struct harpdapple_days {
     size_t count;
     struct harpdapple_record held[HARPDAPPLE_DAYS];

@@ -1,6 +1,5 @@
 -- Document 01, "Dates": "A stamp is a date and a second, 0 to 86,399. Second 0 belongs to the day that it begins."
 use mathlib.Core.Bool.{Bool, cond, _&&_, _||_}
-use Prim.Native.Nat.{ℕ}
 use lib.Dec.{leb, ltb, eqb}
 use Rattle.calendar.specs.Date.{isDate}
 use Rattle.calendar.specs.declared.Stamp.{Stamp}

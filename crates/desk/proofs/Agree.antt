@@ -1,5 +1,5 @@
 -- The desk after a list of calls holds the meter and the ledger of that list, so the two agree.
-use mathlib.Core.Path.{_≡_, refl, sym, ap, _∙_, subst}
+use mathlib.Core.Path.{_≡_, refl, ap, _∙_}
 use mathlib.Core.List.{List, [], _∷_}
 use lib.ListN.{length}
 use Rattle.slots.specs.World.{real}
@@ -13,7 +13,7 @@ use Rattle.book.specs.Book.{blankBook}
 use Rattle.book.specs.Kept.{fedBook, bookOfRun}
 use Rattle.book.proofs.Proved.{book-kept}
 use Rattle.desk.specs.declared.Desk.{Desk}
-use Rattle.desk.specs.Desk.{newDesk, played, deskOf, Agrees, AlwaysAgrees}
+use Rattle.desk.specs.Desk.{newDesk, played, deskOf, AlwaysAgrees}
 
 -- the meter follows the rules along the list
 pub record Ran (d : Desk) (cs : List Call) : Type 0 where

@@ -1,8 +1,7 @@
 -- The promise of a call says what the rules say: the machine and the words that it leaves are the state after the call.
-use mathlib.Core.Path.{_≡_, refl, sym, ap, _∙_}
+use mathlib.Core.Path.{_≡_, refl, sym, _∙_}
 use mathlib.Core.List.{List}
 use Prim.Native.Nat.{ℕ}
-use lib.ListN.{length}
 use Rattle.answer.specs.declared.Answer.{Answer}
 use Rattle.answer.specs.declared.Answer.the-variants.{Accepted, Refused}
 use Rattle.answer.proofs.Tests.{next-first}
@@ -10,7 +9,7 @@ use Rattle.records.specs.Records.{Held}
 use Rattle.records.specs.Words.{rows, heldFrom, heldOf, noWords}
 use Rattle.slots.specs.World.{World, real}
 use Rattle.state.specs.State.{State, stateWith, registersOf, fresh}
-use Rattle.state.specs.Turn.{turn, turnWords}
+use Rattle.state.specs.Turn.{turn}
 use Rattle.state.specs.Pulsed.{pulsed}
 use Rattle.state.specs.Refusals.{stampRefusal}
 use Rattle.state.proofs.Admitted.{stamp-passed}

@@ -1,11 +1,9 @@
 -- Each accepted call keeps the bounds: a meter grown from a fresh one by calls never breaks them. Shown of any world that keeps the laws.
 use mathlib.Core.Path.{_≡_, refl, sym, ap, _∙_}
-use mathlib.Core.Bool.{Bool, true, false, cond, not, _&&_, _||_}
-use mathlib.Core.List.{List, [], _∷_}
-use Prim.Native.Nat.{ℕ, _+_, _-_, _*_, _≤_}
-use native.Mathlib.Omega.{arith}
+use mathlib.Core.Bool.{Bool, true, false, not, _&&_, _||_}
+use Prim.Native.Nat.{ℕ, _+_, _-_, _≤_}
 use lib.Dec.{leb, eqb}
-use lib.IntN.{ℤ, pos}
+use lib.IntN.{pos}
 use lib.Signed.{ltZ}
 use borrow.Author.Tests.{leb-true}
 use Rattle.units.specs.Volume.{highestTotal}
@@ -26,7 +24,7 @@ use Rattle.slots.specs.declared.Slot.{Slot}
 use Rattle.slots.specs.declared.Slots.{Slots}
 use Rattle.slots.specs.World.{World}
 use Rattle.slots.specs.Laws.{Laws}
-use Rattle.slots.specs.Slots.{inSlot, someForce, chargeOn, fee, used, keeps}
+use Rattle.slots.specs.Slots.{inSlot, someForce}
 use Rattle.slots.specs.Load.{slotAt, otherAt, holding, meetsSlot, loadRefusal, loaded}
 use Rattle.slots.specs.Bounds.{slotGood, apart, freshSlots}
 use Rattle.state.specs.State.{State, fresh}

@@ -6,7 +6,7 @@ use native.Mathlib.Omega.{arith}
 use Rattle.answer.specs.declared.Answer.{Answer}
 use Rattle.answer.specs.declared.Answer.the-variants.{Accepted, Refused}
 use Rattle.calendar.specs.declared.Dated.{Dated}
-use Rattle.calendar.specs.declared.Dated.the-variants.{On, Refused as Off}
+use Rattle.calendar.specs.declared.Dated.the-variants.{Refused as Off}
 use Rattle.account.specs.declared.Codes.{Codes}
 use Rattle.account.specs.Codes.{noCodes, noteAll}
 use Rattle.account.proofs.Notes.{note-append}

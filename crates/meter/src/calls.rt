@@ -12,7 +12,6 @@ use account::Codes;
 use answer::Answer;
 use calendar::Dated;
 use records::held::Words;
-ghost use mathlib.Core.Path.{_≡_};
 ghost use Rattle.meter.specs.Call.{pulses as pulsesCall, recharge as rechargeCall, load as loadCall, alarms as alarmsCall, command as commandCall, key as keyCall, tick as tickCall};
 ghost use Rattle.meter.specs.Machine.{meterOf, Answers};
 

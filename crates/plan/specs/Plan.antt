@@ -1,6 +1,6 @@
 -- Document 01, "Plan record (Table C.1)": the fields of a plan, and which of them are read.
 use mathlib.Core.Bool.{Bool, cond, _||_}
-use mathlib.Core.List.{List, [], _∷_}
+use mathlib.Core.List.{[], _∷_}
 use Prim.Native.Nat.{ℕ}
 use lib.Dec.{ltb, eqb}
 use lib.ListN.{getD, replicate}

@@ -1,6 +1,6 @@
 -- Document 01, "The plan printer": "prints a line each: start, end, n, cycle word (0 if unread), the extra fields if read, then n pairs,
 -- in plain decimal with single spaces; or the word `refused` and the number."
-use mathlib.Core.Bool.{Bool, true, false, cond}
+use mathlib.Core.Bool.{cond}
 use mathlib.Core.List.{List, [], _∷_, _++_}
 use Prim.Native.Nat.{ℕ, zero, suc, _+_}
 use Rattle.text.specs.Decimal.{decimal, spaced}
@@ -8,7 +8,6 @@ use Rattle.answer.specs.declared.Answer.{Answer}
 use Rattle.answer.specs.declared.Answer.the-variants.{Accepted, Refused}
 use Rattle.plan.specs.declared.Plan.{Plan}
 use Rattle.plan.specs.Plan.{widthAt, priceAt, cycleWord, hasExtra}
-use Rattle.record.specs.declared.Reading.{Reading}
 use Rattle.record.specs.Record.{readOf}
 
 -- n pairs of volume and price, from pair i on

@@ -1,13 +1,13 @@
 -- Document 01, "Plan record (Table C.1)": "Always 66 bytes ..: start 4, end 4, steps 1, cycle word 1, first extra field 4, second extra
 -- field 4, then six pairs of volume 4 and price 4."
-use mathlib.Core.Bool.{Bool, true, cond, not, _||_}
+use mathlib.Core.Bool.{Bool, true, cond, not}
 use mathlib.Core.List.{List, [], _∷_, _++_}
-use Prim.Native.Nat.{ℕ, _+_, _-_, _*_, _/_, _%_}
-use lib.Dec.{ltb, eqb}
+use Prim.Native.Nat.{ℕ, _+_, _-_, _/_}
+use lib.Dec.{ltb}
 use lib.ListN.{getD}
 use Rattle.units.specs.Volume.{volume, price}
 use Rattle.plan.specs.declared.Plan.{Plan}
-use Rattle.plan.specs.Plan.{widthAt, priceAt, cycleWord, hasExtra}
+use Rattle.plan.specs.Plan.{widthAt, priceAt, hasExtra}
 use Rattle.record.specs.Digits.{quadAt, fourBytes}
 
 -- the fields of a record as it stands, read or not

@@ -18,7 +18,7 @@ use Rattle.records.specs.declared.Periods.{Periods}
 use Rattle.records.specs.Records.{recordOf, nothing, Held, inFront}
 use Rattle.records.specs.Turn.{opened, closed, tallied, counted, laterMonth, dayRecord, monthRecord}
 use Rattle.records.specs.Bounds.{recordGood, recordsGood, tallyGood, periodsGood, heldGood, freshTally, freshPeriods, freshHeld}
-use Rattle.records.proofs.Parts.{Within, AllGood, tally-is, is-tally, periods-are, are-periods, record-is, is-record, held-are, are-held}
+use Rattle.records.proofs.Parts.{Within, tally-is, is-tally, periods-are, are-periods, record-is, is-record, held-are, are-held}
 
 -- a greater total
 module _ (total n : ℕ) where

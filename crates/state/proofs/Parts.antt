@@ -1,20 +1,16 @@
 -- The bounds of a meter in parts, and that a fresh meter is within them.
-use mathlib.Core.Path.{_≡_, refl, sym, ap, _∙_}
-use mathlib.Core.Bool.{Bool, true, false, cond, not, _&&_, _||_}
-use mathlib.Core.List.{List, []}
-use Prim.Native.Nat.{ℕ, _+_, _*_, _≤_, _<_}
+use mathlib.Core.Path.{_≡_}
+use mathlib.Core.Bool.{true, false, not, _&&_}
+use Prim.Native.Nat.{ℕ, _+_, _≤_}
 use native.Mathlib.Omega.{arith}
-use lib.Dec.{leb, ltb, eqb}
-use lib.ListN.{take}
-use lib.IntN.{ℤ, pos}
+use lib.Dec.{leb, eqb}
+use lib.IntN.{pos}
 use lib.Signed.{leZ, ltZ}
-use borrow.Author.Tests.{leb-true, le-leb, eqb-true, eq-eqb, ne-eqb}
-use Rattle.units.specs.Volume.{highestTotal, chargeInBounds}
-use Rattle.units.specs.Money.{inBounds}
+use borrow.Author.Tests.{le-leb, eqb-true, eq-eqb, ne-eqb}
+use Rattle.units.specs.Volume.{highestTotal}
 use Rattle.units.proofs.Integers.{up, dn, le-true, lt-false}
 use Rattle.units.proofs.Balance.{are-bounds}
 use Rattle.answer.proofs.Tests.{cases, never, and-left, and-right, both, not-true}
-use Rattle.calendar.specs.declared.Stamp.{Stamp}
 use Rattle.account.specs.declared.Account.{Account}
 use Rattle.account.specs.declared.Valve.{Valve}
 use Rattle.account.specs.Account.{alarmsGood, accountGood, freshAccount}

@@ -1,6 +1,6 @@
 -- What the bounds of a meter leave for the leaves of a call, before and after the day is turned.
-use mathlib.Core.Path.{_≡_, refl, sym, ap, _∙_}
-use mathlib.Core.Bool.{Bool, true, false, cond, not, _&&_, _||_}
+use mathlib.Core.Path.{_≡_, refl, ap, _∙_}
+use mathlib.Core.Bool.{true, false, not, _&&_, _||_}
 use mathlib.Core.List.{List, []}
 use Prim.Native.Nat.{ℕ, _+_, _*_, _^_, _≤_, _<_}
 use native.Mathlib.Omega.{arith}
@@ -13,7 +13,6 @@ use Rattle.answer.proofs.Tests.{cases, never, and-left, and-right, not-true, ne
 use borrow.Author.Tests.{le-ltb, leb-true, eq-eqb, ne-eqb, eqb-false}
 use Rattle.calendar.specs.declared.Stamp.{Stamp}
 use Rattle.calendar.specs.Date.{isDate}
-use Rattle.calendar.specs.Stamp.{notBefore}
 use Rattle.calendar.proofs.Stamps.{not-before-date}
 use Rattle.account.specs.Account.{rechargeRefusal}
 use Rattle.account.proofs.Kept.{account-room, recharge-small}
@@ -23,21 +22,20 @@ use Rattle.slots.specs.World.{real}
 use Rattle.slots.specs.Slots.{inSlot, someForce, slotOn, forceOn, fee, slotsTurned}
 use Rattle.slots.specs.Bounds.{slotGood, apart, freshSlots}
 use Rattle.slots.proofs.Real.{real-laws}
-use Rattle.state.specs.declared.Volumes.{Volumes}
 use Rattle.records.specs.Records.{noneHeld}
 use Rattle.records.specs.Bounds.{freshHeld}
 use Rattle.records.proofs.Kept.{fresh-held}
 use Rattle.state.specs.declared.Registers.{Registers}
 use Rattle.state.specs.State.{State, stateWith, stateOf, alone, registersOf, withClock}
-use Rattle.state.specs.Bounds.{stampGood, noClock, isFresh, freshVolumes, stateGood, bounded}
+use Rattle.state.specs.Bounds.{stampGood, noClock, isFresh, stateGood, bounded}
 use Rattle.account.specs.Account.{freshAccount}
 use Rattle.state.specs.Turn.{turn, turnedTo, turnCodes, turnWords}
 use Rattle.state.specs.Pulsed.{pulsed, pulseCodes}
 use Rattle.state.specs.Refusals.{stampRefusal, pulseRefusal}
 use Rattle.state.proofs.Parts.{Parts, state-in, state-out, bounded-state}
-use Rattle.state.proofs.Turned.{slots-in, total-in, total-low, turn-state, turn-account, turn-volumes}
+use Rattle.state.proofs.Turned.{slots-in, total-in, total-low, turn-state, turn-volumes}
 use Rattle.state.proofs.Pulses.{fee-cap}
-use Rattle.state.proofs.Admitted.{Admitted, stamp-passed}
+use Rattle.state.proofs.Admitted.{stamp-passed}
 
 -- the bounds in parts
 pub state : (m : State) → bounded real m ≡ true → Parts real real-laws m

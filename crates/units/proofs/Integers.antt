@@ -2,8 +2,8 @@
 -- equation or an order of integers is one of these. Hand `omega` the law of each sum that a statement names, `plus a b` or
 -- `minus a b`, and close the statement with `same`, `true-le`, .. . Assumes nothing.
 use mathlib.Core.Path.{_≡_, refl, sym, ap, _∙_, subst, subst⁻¹}
-use mathlib.Core.Bool.{Bool, true, false, not, cond}
-use Prim.Native.Nat.{ℕ, zero, suc, _+_, _-_, _^_, _≤_, _<_}
+use mathlib.Core.Bool.{Bool, true, false, cond}
+use Prim.Native.Nat.{ℕ, zero, suc, _+_, _-_, _≤_, _<_}
 use native.Mathlib.Omega.{arith}
 use borrow.Author.Tests.{ltb-true, ltb-false, lt-ltb, le-ltb, le-leb, lt-leb, leb-true, leb-false}
 use lib.Dec.{T, ltb, leb, leb·suc-suc, leb→le, le→leb, lt→ltb}

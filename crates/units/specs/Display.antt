@@ -1,5 +1,5 @@
 -- Document 01, "Units": "The display shows ten-thousandths (5.16.6): the greatest whole number not above balance / 100."
-use Prim.Native.Nat.{ℕ, _/_}
+use Prim.Native.Nat.{_/_}
 use lib.IntN.{ℤ, pos, negsuc}
 use Rattle.units.specs.declared.Millionths.{Millionths}
 use Rattle.units.specs.declared.Shown.{Shown}

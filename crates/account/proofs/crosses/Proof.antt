@@ -3,17 +3,11 @@ use borrow.Author.Needs.{needs}
 use Rattle.account.proofs.crosses.Statement.{statement}
 use Rattle.account.proofs.crosses.Tie as tie
 
-at-or-below-requires : tie.Need-at-or-below-requires
-at-or-below-requires c κs = search needs
-
 returns : tie.Need-returns
 returns c = rw (← c .before .at-or-below .ensures, c .if1 .taken)
-
-at-or-below-requires-2 : tie.Need-at-or-below-requires-2
-at-or-below-requires-2 c κs = search needs
 
 returns-2 : tie.Need-returns-2
 returns-2 c = rw (← c .before .before .at-or-below .ensures, c .before .if1 .left) (c .at-or-below2 .ensures)
 
 pub crosses-spec : {M : Type 1} → statement M
-crosses-spec = tie.close (tie.spec at-or-below-requires returns at-or-below-requires-2 returns-2)
+crosses-spec = tie.close (tie.spec (search needs) returns (search needs) returns-2)

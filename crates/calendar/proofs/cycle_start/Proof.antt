@@ -5,15 +5,6 @@ use borrow.Author.Needs.{needs}
 use Rattle.calendar.proofs.cycle_start.Statement.{statement}
 use Rattle.calendar.proofs.cycle_start.Tie as tie
 
-month-start-requires : tie.Need-month-start-requires
-month-start-requires c κs = search needs
-
-quarter-start-requires : tie.Need-quarter-start-requires
-quarter-start-requires c κs = search needs
-
-year-start-requires : tie.Need-year-start-requires
-year-start-requires c κs = search needs
-
 returns : tie.Need-returns
 unfolding cycleStart
 returns c = rw (c .before .match .keys1, c .month-start .ensures)
@@ -35,9 +26,9 @@ pub cycle-start-spec : {M : Type 1} → statement M
 cycle-start-spec =
     tie.close
     (tie.spec
-    month-start-requires
-    quarter-start-requires
-    year-start-requires
+    (search needs)
+    (search needs)
+    (search needs)
     returns
     returns-2
     returns-3

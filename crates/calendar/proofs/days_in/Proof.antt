@@ -6,9 +6,6 @@ use borrow.Author.Needs.{needs}
 use Rattle.calendar.proofs.days_in.Statement.{statement}
 use Rattle.calendar.proofs.days_in.Tie as tie
 
-february-requires : tie.Need-february-requires
-february-requires c κs = search needs
-
 returns : tie.Need-returns
 returns c = rw (c .february .ensures, c .before .match .keys1)
 
@@ -29,4 +26,4 @@ returns-3 c =
     )
 
 pub days-in-spec : {M : Type 1} → statement M
-days-in-spec = tie.close (tie.spec february-requires returns returns-2 returns-3)
+days-in-spec = tie.close (tie.spec (search needs) returns returns-2 returns-3)

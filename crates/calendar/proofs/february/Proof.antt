@@ -4,9 +4,6 @@ use borrow.Author.Needs.{needs}
 use Rattle.calendar.proofs.february.Statement.{statement}
 use Rattle.calendar.proofs.february.Tie as tie
 
-is-leap-requires : tie.Need-is-leap-requires
-is-leap-requires c κs = search needs
-
 returns : tie.Need-returns
 unfolding daysIn
 returns c = rw (← c .before .is-leap .ensures, c .if1 .taken)
@@ -16,4 +13,4 @@ unfolding daysIn
 returns-2 c = rw (← c .before .is-leap .ensures, c .if1 .left)
 
 pub february-spec : {M : Type 1} → statement M
-february-spec = tie.close (tie.spec is-leap-requires returns returns-2)
+february-spec = tie.close (tie.spec (search needs) returns returns-2)

@@ -5,9 +5,6 @@ use borrow.Author.Needs.{needs}
 use Rattle.calendar.proofs.is_date.Statement.{statement}
 use Rattle.calendar.proofs.is_date.Tie as tie
 
-is-day-requires : tie.Need-is-day-requires
-is-day-requires c κs = search needs
-
 returns : tie.Need-returns
 unfolding isDate
 returns c =
@@ -22,4 +19,4 @@ unfolding isDate
 returns-3 c = rw (lt-leb _ _ (c .if1 .left))
 
 pub is-date-spec : {M : Type 1} → statement M
-is-date-spec = tie.close (tie.spec is-day-requires returns returns-2 returns-3)
+is-date-spec = tie.close (tie.spec (search needs) returns returns-2 returns-3)

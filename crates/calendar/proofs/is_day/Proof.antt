@@ -5,9 +5,6 @@ use borrow.Author.Needs.{needs}
 use Rattle.calendar.proofs.is_day.Statement.{statement}
 use Rattle.calendar.proofs.is_day.Tie as tie
 
-days-in-requires : tie.Need-days-in-requires
-days-in-requires c κs = search needs
-
 returns : tie.Need-returns
 unfolding isDay
 returns c =
@@ -32,4 +29,4 @@ unfolding isDay
 returns-4 c = rw (lt-leb _ _ (c .if1 .left))
 
 pub is-day-spec : {M : Type 1} → statement M
-is-day-spec = tie.close (tie.spec days-in-requires returns returns-2 returns-3 returns-4)
+is-day-spec = tie.close (tie.spec (search needs) returns returns-2 returns-3 returns-4)

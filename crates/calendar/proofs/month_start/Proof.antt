@@ -5,15 +5,9 @@ use borrow.Author.Needs.{needs}
 use Rattle.calendar.proofs.month_start.Statement.{statement}
 use Rattle.calendar.proofs.month_start.Tie as tie
 
-mul-result : tie.Need-mul-result
-mul-result c = search needs
-
-add-result : tie.Need-add-result
-add-result c = search needs
-
 returns : tie.Need-returns
 unfolding monthStart
 returns c = refl
 
 pub month-start-spec : {M : Type 1} → statement M
-month-start-spec = tie.close (tie.spec mul-result add-result returns)
+month-start-spec = tie.close (tie.spec (search needs) (search needs) returns)

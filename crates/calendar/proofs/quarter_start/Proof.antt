@@ -7,12 +7,6 @@ use borrow.Author.Needs.{needs}
 use Rattle.calendar.proofs.quarter_start.Statement.{statement}
 use Rattle.calendar.proofs.quarter_start.Tie as tie
 
-mul-result : tie.Need-mul-result
-mul-result c = search needs
-
-quarter-month-requires : tie.Need-quarter-month-requires
-quarter-month-requires c κs = search needs
-
 mul-result-2 : tie.Need-mul-result-2
 mul-result-2 c = omega (arith, quarter-month-bound (monthOf (c .before .args .d)))
 
@@ -28,4 +22,4 @@ returns c = rw (c .quarter-month .ensures)
 
 pub quarter-start-spec : {M : Type 1} → statement M
 quarter-start-spec =
-    tie.close (tie.spec mul-result quarter-month-requires mul-result-2 add-result add-result-2 returns)
+    tie.close (tie.spec (search needs) (search needs) mul-result-2 add-result add-result-2 returns)

@@ -11,19 +11,10 @@ use Rattle.calendar.proofs.run_of.Tie as tie
 returns : tie.Need-returns
 returns c = rw (run-before _ _ _ (c .if1 .taken))
 
-day-number-requires : tie.Need-day-number-requires
-day-number-requires c κs = search needs
-
-day-number-requires-2 : tie.Need-day-number-requires-2
-day-number-requires-2 c κs = search needs
-
 sub-result : tie.Need-sub-result
 sub-result c =
     let s = c .before .before .before in
     omega (arith, number-keeps (s .args .first) (s .args .d) (s .pre .0) (s .pre .1 .0) (c .before .before .if1 .left))
-
-div-result : tie.Need-div-result
-div-result c = search needs
 
 add-result : tie.Need-add-result
 add-result c =
@@ -40,9 +31,9 @@ run-of-spec =
     tie.close
     (tie.spec
     returns
-    day-number-requires
-    day-number-requires-2
+    (λ c κs. search needs)
+    (λ c κs. search needs)
     sub-result
-    div-result
+    (λ c. search needs)
     add-result
     returns-2)

@@ -5,15 +5,9 @@ use borrow.Author.Needs.{needs}
 use Rattle.calendar.proofs.year_start.Statement.{statement}
 use Rattle.calendar.proofs.year_start.Tie as tie
 
-mul-result : tie.Need-mul-result
-mul-result c = search needs
-
-add-result : tie.Need-add-result
-add-result c = search needs
-
 returns : tie.Need-returns
 unfolding yearStart
 returns c = refl
 
 pub year-start-spec : {M : Type 1} → statement M
-year-start-spec = tie.close (tie.spec mul-result add-result returns)
+year-start-spec = tie.close (tie.spec (search needs) (search needs) returns)

@@ -5,17 +5,8 @@ use borrow.Author.Needs.{needs}
 use Rattle.calendar.proofs.years_before.Statement.{statement}
 use Rattle.calendar.proofs.years_before.Tie as tie
 
-mul-result : tie.Need-mul-result
-mul-result c = search needs
-
-add-result : tie.Need-add-result
-add-result c = search needs
-
-add-result-2 : tie.Need-add-result-2
-add-result-2 c = search needs
-
 returns : tie.Need-returns
 returns c = sym (years-before (c .args .k))
 
 pub years-before-spec : {M : Type 1} → statement M
-years-before-spec = tie.close (tie.spec mul-result add-result add-result-2 returns)
+years-before-spec = tie.close (tie.spec (search needs) (search needs) (search needs) returns)

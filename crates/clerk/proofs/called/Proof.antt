@@ -5,54 +5,6 @@ use borrow.Author.Needs.{needs}
 use Rattle.clerk.proofs.called.Statement.{statement}
 use Rattle.clerk.proofs.called.Tie as tie
 
-enum-known-order : tie.Need-enum-known-order
-enum-known-order c = search needs
-
-pulses-requires : tie.Need-pulses-requires
-pulses-requires c κs = search needs
-
-enum-known-order-2 : tie.Need-enum-known-order-2
-enum-known-order-2 c = search needs
-
-recharge-requires : tie.Need-recharge-requires
-recharge-requires c κs = search needs
-
-enum-known-order-3 : tie.Need-enum-known-order-3
-enum-known-order-3 c = search needs
-
-record-in-requires : tie.Need-record-in-requires
-record-in-requires c κs = search needs
-
-load-requires : tie.Need-load-requires
-load-requires c κs = search needs
-
-enum-known-order-4 : tie.Need-enum-known-order-4
-enum-known-order-4 c = search needs
-
-alarms-requires : tie.Need-alarms-requires
-alarms-requires c κs = search needs
-
-enum-known-order-5 : tie.Need-enum-known-order-5
-enum-known-order-5 c = search needs
-
-command-requires : tie.Need-command-requires
-command-requires c κs = search needs
-
-enum-known-order-6 : tie.Need-enum-known-order-6
-enum-known-order-6 c = search needs
-
-key-requires : tie.Need-key-requires
-key-requires c κs = search needs
-
-enum-known-order-7 : tie.Need-enum-known-order-7
-enum-known-order-7 c = search needs
-
-tick-requires : tie.Need-tick-requires
-tick-requires c κs = search needs
-
-none-requires : tie.Need-none-requires
-none-requires c κs = search needs
-
 returns : tie.Need-returns
 unfolding playedBy
 returns c = rw (c .before .before .order .given .1) (c .pulses .ensures)
@@ -90,22 +42,22 @@ pub called-spec : {M : Type 1} → statement M
 called-spec =
     tie.close
     (tie.spec
-    enum-known-order
-    pulses-requires
-    enum-known-order-2
-    recharge-requires
-    enum-known-order-3
-    record-in-requires
-    load-requires
-    enum-known-order-4
-    alarms-requires
-    enum-known-order-5
-    command-requires
-    enum-known-order-6
-    key-requires
-    enum-known-order-7
-    tick-requires
-    none-requires
+    (search needs)
+    (search needs)
+    (search needs)
+    (search needs)
+    (search needs)
+    (search needs)
+    (search needs)
+    (search needs)
+    (search needs)
+    (search needs)
+    (search needs)
+    (search needs)
+    (search needs)
+    (search needs)
+    (search needs)
+    (search needs)
     returns
     returns-2
     returns-3

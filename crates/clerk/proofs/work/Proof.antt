@@ -4,21 +4,6 @@ use borrow.Author.Needs.{needs}
 use Rattle.clerk.proofs.work.Statement.{statement}
 use Rattle.clerk.proofs.work.Tie as tie
 
-parse-requires : tie.Need-parse-requires
-parse-requires c κs = search needs
-
-called-requires : tie.Need-called-requires
-called-requires c κs = search needs
-
-answered-requires : tie.Need-answered-requires
-answered-requires c κs = search needs
-
-same-length : tie.Need-same-length
-same-length c = search needs
-
-same-length-2 : tie.Need-same-length-2
-same-length-2 c = search needs
-
 returns : tie.Need-returns
 returns c =
     let w = c .before .before in
@@ -33,4 +18,4 @@ returns c =
 pub work-spec : {M : Type 1} → statement M
 work-spec =
     tie.close
-    (tie.spec parse-requires called-requires answered-requires same-length same-length-2 returns)
+    (tie.spec (search needs) (search needs) (search needs) (search needs) (search needs) returns)

@@ -3,14 +3,8 @@ use borrow.Author.Needs.{needs}
 use Rattle.host.proofs.day_reply.Statement.{statement}
 use Rattle.host.proofs.day_reply.Tie as tie
 
-day-requires : tie.Need-day-requires
-day-requires c κs = search needs
-
-record-reply-requires : tie.Need-record-reply-requires
-record-reply-requires c κs = search needs
-
 returns : tie.Need-returns
 returns c = rw (← c .before .day .ensures) (c .record-reply .ensures)
 
 pub day-reply-spec : {M : Type 1} → statement M
-day-reply-spec = tie.close (tie.spec day-requires record-reply-requires returns)
+day-reply-spec = tie.close (tie.spec (search needs) (search needs) returns)

@@ -4,15 +4,6 @@ use borrow.Author.Needs.{needs}
 use Rattle.host.proofs.display_reply.Statement.{statement}
 use Rattle.host.proofs.display_reply.Tie as tie
 
-display-requires : tie.Need-display-requires
-display-requires c κs = search needs
-
-enum-known-a : tie.Need-enum-known-a
-enum-known-a c = search needs
-
-enum-known-a-2 : tie.Need-enum-known-a-2
-enum-known-a-2 c = search needs
-
 returns : tie.Need-returns
 unfolding displayReplyOf
 returns c = rw (← c .before .before .before .display .ensures, c .before .a .given .1)
@@ -22,4 +13,4 @@ unfolding displayReplyOf
 returns-2 c = rw (← c .before .before .before .display .ensures, c .before .a2 .given .1)
 
 pub display-reply-spec : {M : Type 1} → statement M
-display-reply-spec = tie.close (tie.spec display-requires enum-known-a enum-known-a-2 returns returns-2)
+display-reply-spec = tie.close (tie.spec (search needs) (search needs) (search needs) returns returns-2)

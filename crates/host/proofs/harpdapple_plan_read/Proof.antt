@@ -4,15 +4,6 @@ use borrow.Author.Needs.{needs}
 use Rattle.host.proofs.harpdapple_plan_read.Statement.{statement}
 use Rattle.host.proofs.harpdapple_plan_read.Tie as tie
 
-read-requires : tie.Need-read-requires
-read-requires c κs = search needs
-
-enum-told : tie.Need-enum-told
-enum-told c = search needs
-
-enum-known-answer : tie.Need-enum-known-answer
-enum-known-answer c = search needs
-
 returns : tie.Need-returns
 unfolding planReplyOf
 returns c = rw (← c .before .before .before .read .ensures, c .enum-told .given .1)
@@ -23,4 +14,4 @@ returns-2 c = rw (← c .before .before .before .before .read .ensures, c .befor
 
 pub harpdapple-plan-read-spec : {M : Type 1} → statement M
 harpdapple-plan-read-spec =
-    tie.close (tie.spec read-requires enum-told enum-known-answer returns returns-2)
+    tie.close (tie.spec (search needs) (search needs) (search needs) returns returns-2)

@@ -4,18 +4,6 @@ use borrow.Author.Needs.{needs}
 use Rattle.host.proofs.harpdapple_record_in_force.Statement.{statement}
 use Rattle.host.proofs.harpdapple_record_in_force.Tie as tie
 
-choose-requires : tie.Need-choose-requires
-choose-requires c κs = search needs
-
-enum-told : tie.Need-enum-told
-enum-told c = search needs
-
-enum-told-2 : tie.Need-enum-told-2
-enum-told-2 c = search needs
-
-enum-known-c : tie.Need-enum-known-c
-enum-known-c c = search needs
-
 returns : tie.Need-returns
 unfolding partReplyOf
 returns c = rw (← c .before .before .choose .ensures, c .enum-told .given .1)
@@ -31,4 +19,4 @@ returns-3 c = rw (← c .before .before .before .choose .ensures, c .before .c .
 pub harpdapple-record-in-force-spec : {M : Type 1} → statement M
 harpdapple-record-in-force-spec =
     tie.close
-    (tie.spec choose-requires enum-told enum-told-2 enum-known-c returns returns-2 returns-3)
+    (tie.spec (search needs) (search needs) (search needs) (search needs) returns returns-2 returns-3)

@@ -3,14 +3,8 @@ use borrow.Author.Needs.{needs}
 use Rattle.host.proofs.month_reply.Statement.{statement}
 use Rattle.host.proofs.month_reply.Tie as tie
 
-month-requires : tie.Need-month-requires
-month-requires c κs = search needs
-
-record-reply-requires : tie.Need-record-reply-requires
-record-reply-requires c κs = search needs
-
 returns : tie.Need-returns
 returns c = rw (← c .before .month .ensures) (c .record-reply .ensures)
 
 pub month-reply-spec : {M : Type 1} → statement M
-month-reply-spec = tie.close (tie.spec month-requires record-reply-requires returns)
+month-reply-spec = tie.close (tie.spec (search needs) (search needs) returns)

@@ -4,15 +4,6 @@ use borrow.Author.Needs.{needs}
 use Rattle.host.proofs.record_reply.Statement.{statement}
 use Rattle.host.proofs.record_reply.Tie as tie
 
-enum-known-a : tie.Need-enum-known-a
-enum-known-a c = search needs
-
-enum-known-a-2 : tie.Need-enum-known-a-2
-enum-known-a-2 c = search needs
-
-no-record-requires : tie.Need-no-record-requires
-no-record-requires c κs = search needs
-
 returns : tie.Need-returns
 unfolding recordReplyOf
 returns c = rw (c .before .a .given .1)
@@ -23,4 +14,4 @@ returns-2 c = rw (c .before .before .a2 .given .1, c .no-record .ensures)
 
 pub record-reply-spec : {M : Type 1} → statement M
 record-reply-spec =
-    tie.close (tie.spec enum-known-a enum-known-a-2 no-record-requires returns returns-2)
+    tie.close (tie.spec (search needs) (search needs) (search needs) returns returns-2)

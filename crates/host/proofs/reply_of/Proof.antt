@@ -4,12 +4,6 @@ use borrow.Author.Needs.{needs}
 use Rattle.host.proofs.reply_of.Statement.{statement}
 use Rattle.host.proofs.reply_of.Tie as tie
 
-enum-told : tie.Need-enum-told
-enum-told c = search needs
-
-enum-known-answer : tie.Need-enum-known-answer
-enum-known-answer c = search needs
-
 returns : tie.Need-returns
 unfolding replyOf
 returns c = rw (c .enum-told .given .1)
@@ -19,4 +13,4 @@ unfolding replyOf
 returns-2 c = rw (c .before .answer .given .1)
 
 pub reply-of-spec : {M : Type 1} → statement M
-reply-of-spec = tie.close (tie.spec enum-told enum-known-answer returns returns-2)
+reply-of-spec = tie.close (tie.spec (search needs) (search needs) returns returns-2)

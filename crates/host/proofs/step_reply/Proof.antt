@@ -4,15 +4,6 @@ use borrow.Author.Needs.{needs}
 use Rattle.host.proofs.step_reply.Statement.{statement}
 use Rattle.host.proofs.step_reply.Tie as tie
 
-step-requires : tie.Need-step-requires
-step-requires c κs = search needs
-
-enum-known-a : tie.Need-enum-known-a
-enum-known-a c = search needs
-
-enum-known-a-2 : tie.Need-enum-known-a-2
-enum-known-a-2 c = search needs
-
 returns : tie.Need-returns
 unfolding stepReplyOf
 returns c = rw (← c .before .before .before .step .ensures, c .before .a .given .1)
@@ -22,4 +13,4 @@ unfolding stepReplyOf
 returns-2 c = rw (← c .before .before .before .step .ensures, c .before .a2 .given .1)
 
 pub step-reply-spec : {M : Type 1} → statement M
-step-reply-spec = tie.close (tie.spec step-requires enum-known-a enum-known-a-2 returns returns-2)
+step-reply-spec = tie.close (tie.spec (search needs) (search needs) (search needs) returns returns-2)

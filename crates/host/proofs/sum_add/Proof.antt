@@ -5,12 +5,6 @@ use Rattle.host.specs.Replies.{addOf}
 use Rattle.host.proofs.sum_add.Statement.{statement}
 use Rattle.host.proofs.sum_add.Tie as tie
 
-cast-t6 : tie.Need-cast-t6
-cast-t6 c = search needs
-
-add-t7 : tie.Need-add-t7
-add-t7 c = search needs
-
 returns : tie.Need-returns
 unfolding addOf
 returns c = rw (c .before .before .before .before .before .before .if1 .taken, le-leb _ _ (c .before .before .before .before .if2 .taken), le-leb _ _ (c .before .before .if3 .taken))
@@ -28,4 +22,4 @@ unfolding addOf
 returns-4 c = rw (c .if1 .left)
 
 pub sum-add-spec : {M : Type 1} → statement M
-sum-add-spec = tie.close (tie.spec cast-t6 add-t7 returns returns-2 returns-3 returns-4)
+sum-add-spec = tie.close (tie.spec (search needs) (search needs) returns returns-2 returns-3 returns-4)

@@ -6,9 +6,6 @@ use Rattle.lines.proofs.Places.{until-take}
 use Rattle.lines.proofs.until.Statement.{statement}
 use Rattle.lines.proofs.until.Tie as tie
 
-find-requires : tie.Need-find-requires
-find-requires c κs = search needs
-
 slice-aggregate-result : tie.Need-slice-aggregate-result
 slice-aggregate-result c = sym (length-take-le _ _ (c .before .find .ensures .2))
 
@@ -18,4 +15,4 @@ returns c =
     rw (c .before .find .ensures .0) (until-take (a .b) (a .s .now))
 
 pub until-spec : {M : Type 1} → statement M
-until-spec = tie.close (tie.spec find-requires slice-aggregate-result returns)
+until-spec = tie.close (tie.spec (search needs) slice-aggregate-result returns)

@@ -9,12 +9,6 @@ use borrow.Author.Needs.{needs}
 use Rattle.printer.proofs.plan_line.Statement.{statement}
 use Rattle.printer.proofs.plan_line.Tie as tie
 
-columns-of-requires : tie.Need-columns-of-requires
-columns-of-requires c κs = search needs
-
-count-of-requires : tie.Need-count-of-requires
-count-of-requires c κs = search needs
-
 array-share-prefix-v : tie.Need-array-share-prefix-v
 array-share-prefix-v c =
     let a = c .before .before .before in
@@ -31,9 +25,6 @@ put-numbers-requires c κs =
     let most = count-most (a .args .p) (a .pre .0) in
     rw (length-take-le _ _ (array-share-prefix-v n), n .count-of .ensures) (omega arith, omega arith)
 
-same-length : tie.Need-same-length
-same-length c = search needs
-
 returns : tie.Need-returns
 returns c =
     let n = c .before .before .before .before .before in
@@ -49,10 +40,10 @@ pub plan-line-spec : {M : Type 1} → statement M
 plan-line-spec =
     tie.close
     (tie.spec
-    columns-of-requires
-    count-of-requires
+    (search needs)
+    (search needs)
     array-share-prefix-v
     slice-aggregate-put-numbers
     put-numbers-requires
-    same-length
+    (search needs)
     returns)

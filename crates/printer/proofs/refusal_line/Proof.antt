@@ -8,30 +8,6 @@ use borrow.Author.Needs.{needs}
 use Rattle.printer.proofs.refusal_line.Statement.{statement}
 use Rattle.printer.proofs.refusal_line.Tie as tie
 
-slice-aggregate-put-bytes : tie.Need-slice-aggregate-put-bytes
-slice-aggregate-put-bytes c = search needs
-
-put-bytes-requires : tie.Need-put-bytes-requires
-put-bytes-requires c κs = search needs
-
-sub-put-item : tie.Need-sub-put-item
-sub-put-item c = search needs
-
-part-put-item-start : tie.Need-part-put-item-start
-part-put-item-start c = search needs
-
-part-put-item-end : tie.Need-part-put-item-end
-part-put-item-end c = search needs
-
-put-item-requires : tie.Need-put-item-requires
-put-item-requires c κs = search needs
-
-add-result : tie.Need-add-result
-add-result c = search needs
-
-same-length : tie.Need-same-length
-same-length c = search needs
-
 returns : tie.Need-returns
 returns c =
     let b = c .before .before .before .before .before .before in
@@ -45,12 +21,12 @@ pub refusal-line-spec : {M : Type 1} → statement M
 refusal-line-spec =
     tie.close
     (tie.spec
-    slice-aggregate-put-bytes
-    put-bytes-requires
-    sub-put-item
-    part-put-item-start
-    part-put-item-end
-    put-item-requires
-    add-result
-    same-length
+    (search needs)
+    (search needs)
+    (search needs)
+    (search needs)
+    (search needs)
+    (search needs)
+    (search needs)
+    (search needs)
     returns)

@@ -3,21 +3,12 @@ use borrow.Author.Needs.{needs}
 use Rattle.record.proofs.answered.Statement.{statement}
 use Rattle.record.proofs.answered.Tie as tie
 
-accepted-requires : tie.Need-accepted-requires
-accepted-requires c κs = search needs
-
-tidy-requires : tie.Need-tidy-requires
-tidy-requires c κs = search needs
-
 returns : tie.Need-returns
 returns c = rw (← c .before .before .accepted .ensures, c .before .if1 .taken, c .tidy .ensures)
-
-none-requires : tie.Need-none-requires
-none-requires c κs = search needs
 
 returns-2 : tie.Need-returns-2
 returns-2 c = rw (← c .before .before .accepted .ensures, c .before .if1 .left, c .none .ensures)
 
 pub answered-spec : {M : Type 1} → statement M
 answered-spec =
-    tie.close (tie.spec accepted-requires tidy-requires returns none-requires returns-2)
+    tie.close (tie.spec (search needs) (search needs) returns (search needs) returns-2)

@@ -6,12 +6,6 @@ use borrow.Author.Needs.{needs}
 use Rattle.record.proofs.byte_at.Statement.{statement}
 use Rattle.record.proofs.byte_at.Tie as tie
 
-cast-quad-byte : tie.Need-cast-quad-byte
-cast-quad-byte c = search needs
-
-quad-byte-requires : tie.Need-quad-byte-requires
-quad-byte-requires c κs = search needs
-
 returns : tie.Need-returns
 unfolding byteAt
 returns c =
@@ -22,12 +16,6 @@ returns c =
       lt-ltb _ _ (t1 .if1 .taken),
       c .quad-byte .ensures,
     )
-
-cast-quad-byte-2 : tie.Need-cast-quad-byte-2
-cast-quad-byte-2 c = search needs
-
-quad-byte-requires-2 : tie.Need-quad-byte-requires-2
-quad-byte-requires-2 c κs = search needs
 
 returns-2 : tie.Need-returns-2
 unfolding byteAt
@@ -70,12 +58,6 @@ returns-4 c =
       lt-ltb _ _ (c .if4 .taken),
     )
 
-cast-quad-byte-3 : tie.Need-cast-quad-byte-3
-cast-quad-byte-3 c = search needs
-
-quad-byte-requires-3 : tie.Need-quad-byte-requires-3
-quad-byte-requires-3 c κs = search needs
-
 returns-5 : tie.Need-returns-5
 unfolding byteAt
 returns-5 c =
@@ -94,12 +76,6 @@ returns-5 c =
       lt-ltb _ _ (t5 .if5 .taken),
       c .quad-byte3 .ensures,
     )
-
-cast-quad-byte-4 : tie.Need-cast-quad-byte-4
-cast-quad-byte-4 c = search needs
-
-quad-byte-requires-4 : tie.Need-quad-byte-requires-4
-quad-byte-requires-4 c κs = search needs
 
 returns-6 : tie.Need-returns-6
 unfolding byteAt
@@ -121,9 +97,6 @@ returns-6 c =
       lt-ltb _ _ (t6 .if6 .taken),
       c .quad-byte4 .ensures,
     )
-
-pair-byte-requires : tie.Need-pair-byte-requires
-pair-byte-requires c κs = search needs
 
 returns-7 : tie.Need-returns-7
 unfolding byteAt
@@ -150,19 +123,19 @@ pub byte-at-spec : {M : Type 1} → statement M
 byte-at-spec =
     tie.close
     (tie.spec
-    cast-quad-byte
-    quad-byte-requires
+    (search needs)
+    (search needs)
     returns
-    cast-quad-byte-2
-    quad-byte-requires-2
+    (search needs)
+    (search needs)
     returns-2
     returns-3
     returns-4
-    cast-quad-byte-3
-    quad-byte-requires-3
+    (search needs)
+    (search needs)
     returns-5
-    cast-quad-byte-4
-    quad-byte-requires-4
+    (search needs)
+    (search needs)
     returns-6
-    pair-byte-requires
+    (search needs)
     returns-7)

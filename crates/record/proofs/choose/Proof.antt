@@ -5,18 +5,9 @@ use borrow.Author.Needs.{needs}
 use Rattle.record.proofs.choose.Statement.{statement}
 use Rattle.record.proofs.choose.Tie as tie
 
-is-date-requires : tie.Need-is-date-requires
-is-date-requires c κs = search needs
-
 returns : tie.Need-returns
 unfolding choiceOf
 returns c = rw (fails (c .before .is-date .ensures) (c .if1 .taken))
-
-read-requires : tie.Need-read-requires
-read-requires c κs = search needs
-
-enum-known-one : tie.Need-enum-known-one
-enum-known-one c = search needs
 
 returns-2 : tie.Need-returns-2
 unfolding choiceOf
@@ -27,15 +18,6 @@ returns-2 c =
       ← r .read .ensures,
       c .before .one .given .1,
     )
-
-enum-told : tie.Need-enum-told
-enum-told c = search needs
-
-read-requires-2 : tie.Need-read-requires-2
-read-requires-2 c κs = search needs
-
-enum-known-two : tie.Need-enum-known-two
-enum-known-two c = search needs
 
 returns-3 : tie.Need-returns-3
 unfolding choiceOf
@@ -49,18 +31,6 @@ returns-3 c =
       ← s .read2 .ensures,
       c .before .two .given .1,
     )
-
-enum-told-2 : tie.Need-enum-told-2
-enum-told-2 c = search needs
-
-in-force-requires : tie.Need-in-force-requires
-in-force-requires c κs = search needs
-
-in-force-requires-2 : tie.Need-in-force-requires-2
-in-force-requires-2 c κs = search needs
-
-which-requires : tie.Need-which-requires
-which-requires c κs = search needs
 
 returns-4 : tie.Need-returns-4
 unfolding choiceOf
@@ -83,17 +53,17 @@ pub choose-spec : {M : Type 1} → statement M
 choose-spec =
     tie.close
     (tie.spec
-    is-date-requires
+    (search needs)
     returns
-    read-requires
-    enum-known-one
+    (search needs)
+    (search needs)
     returns-2
-    enum-told
-    read-requires-2
-    enum-known-two
+    (search needs)
+    (search needs)
+    (search needs)
     returns-3
-    enum-told-2
-    in-force-requires
-    in-force-requires-2
-    which-requires
+    (search needs)
+    (search needs)
+    (search needs)
+    (search needs)
     returns-4)

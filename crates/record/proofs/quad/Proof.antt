@@ -4,21 +4,6 @@ use borrow.Author.Needs.{needs}
 use Rattle.record.proofs.quad.Statement.{statement}
 use Rattle.record.proofs.quad.Tie as tie
 
-two-digits-requires : tie.Need-two-digits-requires
-two-digits-requires c κs = search needs
-
-two-digits-requires-2 : tie.Need-two-digits-requires-2
-two-digits-requires-2 c κs = search needs
-
-two-digits-requires-3 : tie.Need-two-digits-requires-3
-two-digits-requires-3 c κs = search needs
-
-two-digits-requires-4 : tie.Need-two-digits-requires-4
-two-digits-requires-4 c κs = search needs
-
-number-requires : tie.Need-number-requires
-number-requires c κs = search needs
-
 returns : tie.Need-returns
 unfolding quadOf
 returns c =
@@ -91,11 +76,11 @@ pub quad-spec : {M : Type 1} → statement M
 quad-spec =
     tie.close
     (tie.spec
-    two-digits-requires
-    two-digits-requires-2
-    two-digits-requires-3
-    two-digits-requires-4
-    number-requires
+    (search needs)
+    (search needs)
+    (search needs)
+    (search needs)
+    (search needs)
     returns
     returns-2
     returns-3

@@ -5,26 +5,14 @@ use borrow.Author.Needs.{needs}
 use Rattle.record.proofs.quad_byte.Statement.{statement}
 use Rattle.record.proofs.quad_byte.Tie as tie
 
-bcd-requires : tie.Need-bcd-requires
-bcd-requires c κs = search needs
-
 returns : tie.Need-returns
 returns c = let e : c .before .before .args .k ≡ 0 = omega arith in rw (e, c .bcd .ensures)
-
-bcd-requires-2 : tie.Need-bcd-requires-2
-bcd-requires-2 c κs = search needs
 
 returns-2 : tie.Need-returns-2
 returns-2 c = let e : c .before .before .before .args .k ≡ 1 = omega arith in rw (e, c .bcd2 .ensures)
 
-bcd-requires-3 : tie.Need-bcd-requires-3
-bcd-requires-3 c κs = search needs
-
 returns-3 : tie.Need-returns-3
 returns-3 c = let e : c .before .before .before .before .args .k ≡ 2 = omega arith in rw (e, c .bcd3 .ensures)
-
-bcd-requires-4 : tie.Need-bcd-requires-4
-bcd-requires-4 c κs = search needs
 
 returns-4 : tie.Need-returns-4
 returns-4 c = let e : c .before .before .before .before .args .k ≡ 3 = omega arith in rw (e, c .bcd4 .ensures)
@@ -33,11 +21,11 @@ pub quad-byte-spec : {M : Type 1} → statement M
 quad-byte-spec =
     tie.close
     (tie.spec
-    bcd-requires
+    (search needs)
     returns
-    bcd-requires-2
+    (search needs)
     returns-2
-    bcd-requires-3
+    (search needs)
     returns-3
-    bcd-requires-4
+    (search needs)
     returns-4)

@@ -13,21 +13,6 @@ returns c =
     let a = c .before .before .args in
     misfit (a .p) (a .out .now) (c .if1 .taken)
 
-vet-requires : tie.Need-vet-requires
-vet-requires c κs = search needs
-
-accepted-requires : tie.Need-accepted-requires
-accepted-requires c κs = search needs
-
-tidy-requires : tie.Need-tidy-requires
-tidy-requires c κs = search needs
-
-put-requires : tie.Need-put-requires
-put-requires c κs = search needs
-
-same-length : tie.Need-same-length
-same-length c = search needs
-
 returns-2 : tie.Need-returns-2
 returns-2 c =
     let t = c .before .before .before .before in
@@ -53,10 +38,10 @@ write-spec =
     tie.close
     (tie.spec
     returns
-    vet-requires
-    accepted-requires
-    tidy-requires
-    put-requires
-    same-length
+    (search needs)
+    (search needs)
+    (search needs)
+    (search needs)
+    (search needs)
     returns-2
     returns-3)

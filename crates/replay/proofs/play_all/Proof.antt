@@ -1,7 +1,6 @@
 -- What is held fits the input, and the buffers keep their lengths; the measure is the number of turns that are left.
 use mathlib.Core.Path.{_≡_, sym}
 use Prim.Native.Nat.{_+_, _≤_}
-use native.Mathlib.Omega.{arith}
 use lib.ListN.{length, length-take}
 use lib.Seq.{length-take-le}
 use borrow.Author.Needs.{needs}

@@ -1,7 +1,7 @@
 -- The lines end within the bytes that are there, and the buffers keep their lengths.
-use mathlib.Core.Path.{_≡_, sym}
+use mathlib.Core.Path.{sym}
 use native.Mathlib.Omega.{arith}
-use lib.ListN.{length, length-take}
+use lib.ListN.{length-take}
 use lib.Seq.{length-take-le}
 use borrow.Author.Needs.{needs}
 use Rattle.replay.proofs.play_some.Statement.{statement}
@@ -43,20 +43,8 @@ keep-requires c κs =
     let k = c .before .before .before .before .before .before .shift .kept in
     (c .before .before .roomy .ensures, omega (arith, p .1 .0))
 
-flush-requires : tie.Need-flush-requires
-flush-requires c κs = search needs
-
-same-length : tie.Need-same-length
-same-length c = search needs
-
 same-length-2 : tie.Need-same-length-2
 same-length-2 c = c .before .before .before .before .before .before .before .before .before .before .before .before .before .before .before .before .before .play-lines .kept .1 .1 .0
-
-same-length-3 : tie.Need-same-length-3
-same-length-3 c = search needs
-
-returns : tie.Need-returns
-returns c = search needs
 
 pub play-some-spec : {M : Type 1} → statement M
 play-some-spec =
@@ -69,8 +57,8 @@ play-some-spec =
     roomy-requires
     sub-keep
     keep-requires
-    flush-requires
-    same-length
+    (search needs)
+    (search needs)
     same-length-2
-    same-length-3
-    returns)
+    (search needs)
+    (search needs))

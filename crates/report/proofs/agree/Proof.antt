@@ -5,12 +5,6 @@ use Rattle.report.proofs.Agreeing.{debt-over, debt-exact, held-over, he
 use Rattle.report.proofs.agree.Statement.{statement}
 use Rattle.report.proofs.agree.Tie as tie
 
-size-requires : tie.Need-size-requires
-size-requires c κs = search needs
-
-negative-requires : tie.Need-negative-requires
-negative-requires c κs = search needs
-
 returns : tie.Need-returns
 returns c =
     let a = c .before .before .before .before .args in
@@ -33,4 +27,4 @@ returns-4 c =
 
 pub agree-spec : {M : Type 1} → statement M
 agree-spec =
-    tie.close (tie.spec size-requires negative-requires returns returns-2 returns-3 returns-4)
+    tie.close (tie.spec (search needs) (search needs) returns returns-2 returns-3 returns-4)

@@ -4,30 +4,12 @@ use Rattle.report.specs.Lines.{callLine}
 use Rattle.report.proofs.call_line.Statement.{statement}
 use Rattle.report.proofs.call_line.Tie as tie
 
-enum-known-a : tie.Need-enum-known-a
-enum-known-a c = search needs
-
-refused-requires : tie.Need-refused-requires
-refused-requires c κs = search needs
-
-same-length : tie.Need-same-length
-same-length c = search needs
-
 returns : tie.Need-returns
 unfolding callLine
 returns c =
     let r = c .before .before in
     let p = r .refused .ensures in
     rw (r .before .before .before .a .given .1) (p .0, p .1, p .2)
-
-enum-told : tie.Need-enum-told
-enum-told c = search needs
-
-ok-line-requires : tie.Need-ok-line-requires
-ok-line-requires c κs = search needs
-
-same-length-2 : tie.Need-same-length-2
-same-length-2 c = search needs
 
 returns-2 : tie.Need-returns-2
 unfolding callLine
@@ -40,11 +22,11 @@ pub call-line-spec : {M : Type 1} → statement M
 call-line-spec =
     tie.close
     (tie.spec
-    enum-known-a
-    refused-requires
-    same-length
+    (search needs)
+    (search needs)
+    (search needs)
     returns
-    enum-told
-    ok-line-requires
-    same-length-2
+    (search needs)
+    (search needs)
+    (search needs)
     returns-2)

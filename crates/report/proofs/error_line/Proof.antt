@@ -6,18 +6,6 @@ use Rattle.place.proofs.Placed.{then, first}
 use Rattle.report.proofs.error_line.Statement.{statement}
 use Rattle.report.proofs.error_line.Tie as tie
 
-slice-aggregate-item : tie.Need-slice-aggregate-item
-slice-aggregate-item c = search needs
-
-item-requires : tie.Need-item-requires
-item-requires c κs = search needs
-
-fault-at-requires : tie.Need-fault-at-requires
-fault-at-requires c κs = search needs
-
-same-length : tie.Need-same-length
-same-length c = search needs
-
 returns : tie.Need-returns
 unfolding errorLine
 returns c =
@@ -28,4 +16,4 @@ returns c =
 
 pub error-line-spec : {M : Type 1} → statement M
 error-line-spec =
-    tie.close (tie.spec slice-aggregate-item item-requires fault-at-requires same-length returns)
+    tie.close (tie.spec (search needs) (search needs) (search needs) (search needs) returns)

@@ -5,41 +5,11 @@ use Rattle.place.proofs.Placed.{then, first}
 use Rattle.report.proofs.heavy_line.Statement.{statement}
 use Rattle.report.proofs.heavy_line.Tie as tie
 
-enum-known-h : tie.Need-enum-known-h
-enum-known-h c = search needs
-
-refused-requires : tie.Need-refused-requires
-refused-requires c κs = search needs
-
-enum-known-h-2 : tie.Need-enum-known-h-2
-enum-known-h-2 c = search needs
-
-slice-aggregate-item : tie.Need-slice-aggregate-item
-slice-aggregate-item c = search needs
-
-item-requires : tie.Need-item-requires
-item-requires c κs = search needs
-
-slice-aggregate-word : tie.Need-slice-aggregate-word
-slice-aggregate-word c = search needs
-
-word-requires : tie.Need-word-requires
-word-requires c κs = search needs
-
-record-at-requires : tie.Need-record-at-requires
-record-at-requires c κs = search needs
-
-same-length : tie.Need-same-length
-same-length c = search needs
-
 returns : tie.Need-returns
 returns c =
     let r = c .before .before in
     let p = r .refused .ensures in
     rw (r .before .before .before .h .given .1) (p .0, p .1, p .2)
-
-same-length-2 : tie.Need-same-length-2
-same-length-2 c = search needs
 
 returns-2 : tie.Need-returns-2
 returns-2 c =
@@ -54,15 +24,15 @@ pub heavy-line-spec : {M : Type 1} → statement M
 heavy-line-spec =
     tie.close
     (tie.spec
-    enum-known-h
-    refused-requires
-    enum-known-h-2
-    slice-aggregate-item
-    item-requires
-    slice-aggregate-word
-    word-requires
-    record-at-requires
-    same-length
+    (search needs)
+    (search needs)
+    (search needs)
+    (search needs)
+    (search needs)
+    (search needs)
+    (search needs)
+    (search needs)
+    (search needs)
     returns
-    same-length-2
+    (search needs)
     returns-2)

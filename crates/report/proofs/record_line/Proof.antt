@@ -5,29 +5,11 @@ use Rattle.place.proofs.Placed.{first}
 use Rattle.report.proofs.record_line.Statement.{statement}
 use Rattle.report.proofs.record_line.Tie as tie
 
-enum-known-f : tie.Need-enum-known-f
-enum-known-f c = search needs
-
-refused-requires : tie.Need-refused-requires
-refused-requires c κs = search needs
-
-enum-known-f-2 : tie.Need-enum-known-f-2
-enum-known-f-2 c = search needs
-
-record-at-requires : tie.Need-record-at-requires
-record-at-requires c κs = search needs
-
-same-length : tie.Need-same-length
-same-length c = search needs
-
 returns : tie.Need-returns
 returns c =
     let r = c .before .before in
     let p = r .refused .ensures in
     rw (r .before .before .before .f .given .1) (p .0, p .1, p .2)
-
-same-length-2 : tie.Need-same-length-2
-same-length-2 c = search needs
 
 returns-2 : tie.Need-returns-2
 returns-2 c =
@@ -40,11 +22,11 @@ pub record-line-spec : {M : Type 1} → statement M
 record-line-spec =
     tie.close
     (tie.spec
-    enum-known-f
-    refused-requires
-    enum-known-f-2
-    record-at-requires
-    same-length
+    (search needs)
+    (search needs)
+    (search needs)
+    (search needs)
+    (search needs)
     returns
-    same-length-2
+    (search needs)
     returns-2)

@@ -4,15 +4,9 @@ use borrow.Author.Needs.{needs}
 use Rattle.script.proofs.command_in.Statement.{statement}
 use Rattle.script.proofs.command_in.Tie as tie
 
-stamp-in-requires : tie.Need-stamp-in-requires
-stamp-in-requires c κs = search needs
-
-narrow-at-requires : tie.Need-narrow-at-requires
-narrow-at-requires c κs = search needs
-
 returns : tie.Need-returns
 unfolding saidBy
 returns c = rw (← c .before .stamp-in .ensures, c .narrow-at .ensures)
 
 pub command-in-spec : {M : Type 1} → statement M
-command-in-spec = tie.close (tie.spec stamp-in-requires narrow-at-requires returns)
+command-in-spec = tie.close (tie.spec (search needs) (search needs) returns)

@@ -5,18 +5,9 @@ use borrow.Author.Needs.{needs}
 use Rattle.script.proofs.load_in.Statement.{statement}
 use Rattle.script.proofs.load_in.Tie as tie
 
-word-requires : tie.Need-word-requires
-word-requires c κs = search needs
-
-stamp-in-requires : tie.Need-stamp-in-requires
-stamp-in-requires c κs = search needs
-
-narrow-at-requires : tie.Need-narrow-at-requires
-narrow-at-requires c κs = search needs
-
 returns : tie.Need-returns
 unfolding saidBy
 returns c = rw (bytes-length, ← c .before .before .word .ensures, ← c .before .stamp-in .ensures, c .narrow-at .ensures)
 
 pub load-in-spec : {M : Type 1} → statement M
-load-in-spec = tie.close (tie.spec word-requires stamp-in-requires narrow-at-requires returns)
+load-in-spec = tie.close (tie.spec (search needs) (search needs) (search needs) returns)

@@ -16,9 +16,6 @@ use borrow.Author.Needs.{needs}
 use Rattle.script.proofs.parse.Statement.{statement}
 use Rattle.script.proofs.parse.Tie as tie
 
-content-requires : tie.Need-content-requires
-content-requires c κs = search needs
-
 returns : tie.Need-returns
 returns c =
     let i = c in
@@ -26,21 +23,6 @@ returns c =
     let s = i .before .content .result .now in
     let line = empty-line (a .line .now) s (i .before .content .ensures) (i .if1 .taken) in
     (line .0, nothing (a .room .now) .1 ∙ ap (λ (l : List ℕ). startingWith l (a .room .now)) (line .1))
-
-word-requires : tie.Need-word-requires
-word-requires c κs = search needs
-
-kind-of-requires : tie.Need-kind-of-requires
-kind-of-requires c κs = search needs
-
-form-of-requires : tie.Need-form-of-requires
-form-of-requires c κs = search needs
-
-verdict-of-requires : tie.Need-verdict-of-requires
-verdict-of-requires c κs = search needs
-
-enum-known-verdict : tie.Need-enum-known-verdict
-enum-known-verdict c = search needs
 
 returns-2 : tie.Need-returns-2
 returns-2 c =
@@ -53,21 +35,12 @@ returns-2 c =
     let line = wrong-line (a .line .now) s (i .before .content .ensures) (i .if1 .left) _ verdict in
     (line .0, nothing (a .room .now) .1 ∙ ap (λ (l : List ℕ). startingWith l (a .room .now)) (line .1))
 
-enum-told : tie.Need-enum-told
-enum-told c = search needs
-
 put-record-requires : tie.Need-put-record-requires
 put-record-requires c κs =
     let i = c .before .before .before .before .before .before .before in
     let a = i .before .before .before .before .args in
     let most = content-most (a .line .now) in
     rw (i .before .content .ensures) (omega arith)
-
-said-requires : tie.Need-said-requires
-said-requires c κs = search needs
-
-same-length : tie.Need-same-length
-same-length c = search needs
 
 returns-3 : tie.Need-returns-3
 returns-3 c =
@@ -86,16 +59,16 @@ pub parse-spec : {M : Type 1} → statement M
 parse-spec =
     tie.close
     (tie.spec
-    content-requires
+    (search needs)
     returns
-    word-requires
-    kind-of-requires
-    form-of-requires
-    verdict-of-requires
-    enum-known-verdict
+    (search needs)
+    (search needs)
+    (search needs)
+    (search needs)
+    (search needs)
     returns-2
-    enum-told
+    (search needs)
     put-record-requires
-    said-requires
-    same-length
+    (search needs)
+    (search needs)
     returns-3)

@@ -4,15 +4,9 @@ use borrow.Author.Needs.{needs}
 use Rattle.script.proofs.pulses_in.Statement.{statement}
 use Rattle.script.proofs.pulses_in.Tie as tie
 
-stamp-in-requires : tie.Need-stamp-in-requires
-stamp-in-requires c κs = search needs
-
-narrow-at-requires : tie.Need-narrow-at-requires
-narrow-at-requires c κs = search needs
-
 returns : tie.Need-returns
 unfolding saidBy
 returns c = rw (← c .before .stamp-in .ensures, c .narrow-at .ensures)
 
 pub pulses-in-spec : {M : Type 1} → statement M
-pulses-in-spec = tie.close (tie.spec stamp-in-requires narrow-at-requires returns)
+pulses-in-spec = tie.close (tie.spec (search needs) (search needs) returns)

@@ -17,17 +17,11 @@ returns : tie.Need-returns
 unfolding recordBy
 returns c = rw (le-leb _ _ (c .if1 .taken)) (nothing (c .before .before .before .before .args .room .now) .1)
 
-word-requires : tie.Need-word-requires
-word-requires c κs = search needs
-
 put-pairs-requires : tie.Need-put-pairs-requires
 put-pairs-requires c κs =
     let a = c .before .before .before .before .before .before .args in
     let most = word-most (a .s .now) (a .f .words) in
     rw (c .before .word .ensures) (omega arith)
-
-same-length : tie.Need-same-length
-same-length c = search needs
 
 returns-2 : tie.Need-returns-2
 unfolding recordBy
@@ -40,4 +34,4 @@ returns-2 c =
 
 pub put-record-spec : {M : Type 1} → statement M
 put-record-spec =
-    tie.close (tie.spec returns word-requires put-pairs-requires same-length returns-2)
+    tie.close (tie.spec returns (search needs) put-pairs-requires (search needs) returns-2)

@@ -4,19 +4,10 @@ use borrow.Author.Needs.{needs}
 use Rattle.script.proofs.recharge_in.Statement.{statement}
 use Rattle.script.proofs.recharge_in.Tie as tie
 
-stamp-in-requires : tie.Need-stamp-in-requires
-stamp-in-requires c κs = search needs
-
-wide-at-requires : tie.Need-wide-at-requires
-wide-at-requires c κs = search needs
-
-narrow-at-requires : tie.Need-narrow-at-requires
-narrow-at-requires c κs = search needs
-
 returns : tie.Need-returns
 unfolding saidBy
 returns c = rw (← c .before .before .stamp-in .ensures, ← c .before .wide-at .ensures, c .narrow-at .ensures)
 
 pub recharge-in-spec : {M : Type 1} → statement M
 recharge-in-spec =
-    tie.close (tie.spec stamp-in-requires wide-at-requires narrow-at-requires returns)
+    tie.close (tie.spec (search needs) (search needs) (search needs) returns)

@@ -4,78 +4,6 @@ use borrow.Author.Needs.{needs}
 use Rattle.script.proofs.said.Statement.{statement}
 use Rattle.script.proofs.said.Tie as tie
 
-enum-told : tie.Need-enum-told
-enum-told c = search needs
-
-pulses-in-requires : tie.Need-pulses-in-requires
-pulses-in-requires c κs = search needs
-
-enum-told-2 : tie.Need-enum-told-2
-enum-told-2 c = search needs
-
-recharge-in-requires : tie.Need-recharge-in-requires
-recharge-in-requires c κs = search needs
-
-enum-told-3 : tie.Need-enum-told-3
-enum-told-3 c = search needs
-
-load-in-requires : tie.Need-load-in-requires
-load-in-requires c κs = search needs
-
-enum-told-4 : tie.Need-enum-told-4
-enum-told-4 c = search needs
-
-alarms-in-requires : tie.Need-alarms-in-requires
-alarms-in-requires c κs = search needs
-
-enum-told-5 : tie.Need-enum-told-5
-enum-told-5 c = search needs
-
-command-in-requires : tie.Need-command-in-requires
-command-in-requires c κs = search needs
-
-enum-told-6 : tie.Need-enum-told-6
-enum-told-6 c = search needs
-
-stamp-in-requires : tie.Need-stamp-in-requires
-stamp-in-requires c κs = search needs
-
-enum-told-7 : tie.Need-enum-told-7
-enum-told-7 c = search needs
-
-stamp-in-requires-2 : tie.Need-stamp-in-requires-2
-stamp-in-requires-2 c κs = search needs
-
-enum-told-8 : tie.Need-enum-told-8
-enum-told-8 c = search needs
-
-enum-told-9 : tie.Need-enum-told-9
-enum-told-9 c = search needs
-
-enum-told-10 : tie.Need-enum-told-10
-enum-told-10 c = search needs
-
-wide-at-requires : tie.Need-wide-at-requires
-wide-at-requires c κs = search needs
-
-enum-told-11 : tie.Need-enum-told-11
-enum-told-11 c = search needs
-
-wide-at-requires-2 : tie.Need-wide-at-requires-2
-wide-at-requires-2 c κs = search needs
-
-enum-told-12 : tie.Need-enum-told-12
-enum-told-12 c = search needs
-
-narrow-at-requires : tie.Need-narrow-at-requires
-narrow-at-requires c κs = search needs
-
-enum-told-13 : tie.Need-enum-told-13
-enum-told-13 c = search needs
-
-enum-told-14 : tie.Need-enum-told-14
-enum-told-14 c = search needs
-
 returns : tie.Need-returns
 unfolding saidBy
 returns c = rw (c .before .enum-told .given .1, c .pulses-in .ensures)
@@ -136,30 +64,30 @@ pub said-spec : {M : Type 1} → statement M
 said-spec =
     tie.close
     (tie.spec
-    enum-told
-    pulses-in-requires
-    enum-told-2
-    recharge-in-requires
-    enum-told-3
-    load-in-requires
-    enum-told-4
-    alarms-in-requires
-    enum-told-5
-    command-in-requires
-    enum-told-6
-    stamp-in-requires
-    enum-told-7
-    stamp-in-requires-2
-    enum-told-8
-    enum-told-9
-    enum-told-10
-    wide-at-requires
-    enum-told-11
-    wide-at-requires-2
-    enum-told-12
-    narrow-at-requires
-    enum-told-13
-    enum-told-14
+    (search needs)
+    (search needs)
+    (search needs)
+    (search needs)
+    (search needs)
+    (search needs)
+    (search needs)
+    (search needs)
+    (search needs)
+    (search needs)
+    (search needs)
+    (search needs)
+    (search needs)
+    (search needs)
+    (search needs)
+    (search needs)
+    (search needs)
+    (search needs)
+    (search needs)
+    (search needs)
+    (search needs)
+    (search needs)
+    (search needs)
+    (search needs)
     returns
     returns-2
     returns-3

@@ -4,15 +4,9 @@ use borrow.Author.Needs.{needs}
 use Rattle.script.proofs.stamp_in.Statement.{statement}
 use Rattle.script.proofs.stamp_in.Tie as tie
 
-narrow-at-requires : tie.Need-narrow-at-requires
-narrow-at-requires c κs = search needs
-
-narrow-at-requires-2 : tie.Need-narrow-at-requires-2
-narrow-at-requires-2 c κs = search needs
-
 returns : tie.Need-returns
 unfolding stampIn
 returns c = rw (← c .before .narrow-at .ensures, c .narrow-at2 .ensures)
 
 pub stamp-in-spec : {M : Type 1} → statement M
-stamp-in-spec = tie.close (tie.spec narrow-at-requires narrow-at-requires-2 returns)
+stamp-in-spec = tie.close (tie.spec (search needs) (search needs) returns)

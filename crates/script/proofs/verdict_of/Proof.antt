@@ -7,9 +7,6 @@ use borrow.Author.Needs.{needs}
 use Rattle.script.proofs.verdict_of.Statement.{statement}
 use Rattle.script.proofs.verdict_of.Tie as tie
 
-has-gap-requires : tie.Need-has-gap-requires
-has-gap-requires c κs = search needs
-
 returns : tie.Need-returns
 unfolding chain
 returns c =
@@ -25,9 +22,6 @@ returns-2 c =
     let known = not-true (a .f .known) (c .if2 .taken) in
     by-tests (a .f) (a .s .now) gap known refl refl refl refl
 
-words-behind-requires : tie.Need-words-behind-requires
-words-behind-requires c κs = search needs
-
 returns-3 : tie.Need-returns-3
 unfolding chain
 returns-3 c =
@@ -36,9 +30,6 @@ returns-3 c =
     let known = not-false (a .f .known) (c .before .before .before .if2 .left) in
     let count = ne-eqb _ _ (λ e. c .if3 .taken (c .before .before .words-behind .ensures ∙ e)) in
     by-tests (a .f) (a .s .now) gap known count refl refl refl
-
-are-numbers-requires : tie.Need-are-numbers-requires
-are-numbers-requires c κs = search needs
 
 returns-4 : tie.Need-returns-4
 unfolding chain
@@ -60,12 +51,6 @@ returns-5 c =
     let numbers = sym (c .before .before .before .are-numbers .ensures) ∙ not-false (c .before .before .before .are-numbers .result) (c .before .before .if4 .left) in
     let plain = le-leb _ _ (c .if5 .taken) in
     by-tests (a .f) (a .s .now) gap known count numbers plain refl
-
-word-requires : tie.Need-word-requires
-word-requires c κs = search needs
-
-is-hex-requires : tie.Need-is-hex-requires
-is-hex-requires c κs = search needs
 
 returns-6 : tie.Need-returns-6
 unfolding chain
@@ -95,15 +80,15 @@ pub verdict-of-spec : {M : Type 1} → statement M
 verdict-of-spec =
     tie.close
     (tie.spec
-    has-gap-requires
+    (search needs)
     returns
     returns-2
-    words-behind-requires
+    (search needs)
     returns-3
-    are-numbers-requires
+    (search needs)
     returns-4
     returns-5
-    word-requires
-    is-hex-requires
+    (search needs)
+    (search needs)
     returns-6
     returns-7)

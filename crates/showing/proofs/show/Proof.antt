@@ -7,27 +7,6 @@ use Rattle.place.proofs.Placed.{then, first}
 use Rattle.showing.proofs.show.Statement.{statement}
 use Rattle.showing.proofs.show.Tie as tie
 
-step-requires : tie.Need-step-requires
-step-requires c κs = search needs
-
-balance-at-requires : tie.Need-balance-at-requires
-balance-at-requires c κs = search needs
-
-usage-at-requires : tie.Need-usage-at-requires
-usage-at-requires c κs = search needs
-
-step-at-requires : tie.Need-step-at-requires
-step-at-requires c κs = search needs
-
-valve-at-requires : tie.Need-valve-at-requires
-valve-at-requires c κs = search needs
-
-day-at-requires : tie.Need-day-at-requires
-day-at-requires c κs = search needs
-
-same-length : tie.Need-same-length
-same-length c = search needs
-
 returns : tie.Need-returns
 unfolding showLines stateWith
 returns c =
@@ -43,11 +22,11 @@ pub show-spec : {M : Type 1} → statement M
 show-spec =
     tie.close
     (tie.spec
-    step-requires
-    balance-at-requires
-    usage-at-requires
-    step-at-requires
-    valve-at-requires
-    day-at-requires
-    same-length
+    (search needs)
+    (search needs)
+    (search needs)
+    (search needs)
+    (search needs)
+    (search needs)
+    (search needs)
     returns)

@@ -6,46 +6,10 @@ use Rattle.place.proofs.Placed.{then}
 use Rattle.showing.proofs.step_at.Statement.{statement}
 use Rattle.showing.proofs.step_at.Tie as tie
 
-enum-known-s : tie.Need-enum-known-s
-enum-known-s c = search needs
-
-unstepped-at-requires : tie.Need-unstepped-at-requires
-unstepped-at-requires c κs = search needs
-
-enum-known-s-2 : tie.Need-enum-known-s-2
-enum-known-s-2 c = search needs
-
-slice-aggregate-item : tie.Need-slice-aggregate-item
-slice-aggregate-item c = search needs
-
-cast-t16 : tie.Need-cast-t16
-cast-t16 c = search needs
-
-item-requires : tie.Need-item-requires
-item-requires c κs = search needs
-
-slice-aggregate-item-2 : tie.Need-slice-aggregate-item-2
-slice-aggregate-item-2 c = search needs
-
-item-requires-2 : tie.Need-item-requires-2
-item-requires-2 c κs = search needs
-
-slice-aggregate-word : tie.Need-slice-aggregate-word
-slice-aggregate-word c = search needs
-
-word-requires : tie.Need-word-requires
-word-requires c κs = search needs
-
-same-length : tie.Need-same-length
-same-length c = search needs
-
 returns : tie.Need-returns
 returns c =
     let u = c .before .before in
     rw (u .before .before .before .s .given .1) (u .unstepped-at .ensures .0, omega arith)
-
-same-length-2 : tie.Need-same-length-2
-same-length-2 c = search needs
 
 returns-2 : tie.Need-returns-2
 unfolding stepShown
@@ -60,17 +24,17 @@ pub step-at-spec : {M : Type 1} → statement M
 step-at-spec =
     tie.close
     (tie.spec
-    enum-known-s
-    unstepped-at-requires
-    enum-known-s-2
-    slice-aggregate-item
-    cast-t16
-    item-requires
-    slice-aggregate-item-2
-    item-requires-2
-    slice-aggregate-word
-    word-requires
-    same-length
+    (search needs)
+    (search needs)
+    (search needs)
+    (search needs)
+    (search needs)
+    (search needs)
+    (search needs)
+    (search needs)
+    (search needs)
+    (search needs)
+    (search needs)
     returns
-    same-length-2
+    (search needs)
     returns-2)

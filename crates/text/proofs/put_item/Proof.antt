@@ -6,18 +6,6 @@ use Rattle.text.proofs.Behind.{byte-behind}
 use Rattle.text.proofs.put_item.Statement.{statement}
 use Rattle.text.proofs.put_item.Tie as tie
 
-put-decimal-requires : tie.Need-put-decimal-requires
-put-decimal-requires c κs = search needs
-
-slice-write-out : tie.Need-slice-write-out
-slice-write-out c = search needs
-
-add-result : tie.Need-add-result
-add-result c = search needs
-
-same-length : tie.Need-same-length
-same-length c = search needs
-
 returns : tie.Need-returns
 returns c =
     let a = c .before .before .before .before .before .args in
@@ -27,4 +15,4 @@ returns c =
 
 pub put-item-spec : {M : Type 1} → statement M
 put-item-spec =
-    tie.close (tie.spec put-decimal-requires slice-write-out add-result same-length returns)
+    tie.close (tie.spec (λ c κs. search needs) (λ c. search needs) (λ c. search needs) (λ c. search needs) returns)

@@ -9,23 +9,14 @@ use Rattle.text.proofs.Behind.{nothing, byte-behind, text-behind}
 use Rattle.text.proofs.put_signed.Statement.{statement}
 use Rattle.text.proofs.put_signed.Tie as tie
 
-slice-write-out : tie.Need-slice-write-out
-slice-write-out c = search needs
-
 sub-put-decimal : tie.Need-sub-put-decimal
 sub-put-decimal c = simp length-set (omega arith)
 
 part-put-decimal-start : tie.Need-part-put-decimal-start
 part-put-decimal-start c = simp length-set (search needs)
 
-part-put-decimal-end : tie.Need-part-put-decimal-end
-part-put-decimal-end c = search needs
-
 put-decimal-requires : tie.Need-put-decimal-requires
 put-decimal-requires c κs = simp (length-take, length-drop, length-set) (omega arith)
-
-add-result : tie.Need-add-result
-add-result c = search needs
 
 same-length : tie.Need-same-length
 same-length c =
@@ -41,12 +32,6 @@ returns c =
     let g = text-behind (45 ∷ []) (decimal (a .size)) (a .out .now) sign (p .0, p .3) in
     rw (c .before .before .before .before .if1 .taken) (g .0, omega arith, omega arith, g .1)
 
-put-decimal-requires-2 : tie.Need-put-decimal-requires-2
-put-decimal-requires-2 c κs = search needs
-
-same-length-2 : tie.Need-same-length-2
-same-length-2 c = search needs
-
 returns-2 : tie.Need-returns-2
 unfolding signed
 returns-2 c =
@@ -57,14 +42,14 @@ pub put-signed-spec : {M : Type 1} → statement M
 put-signed-spec =
     tie.close
     (tie.spec
-    slice-write-out
+    (search needs)
     sub-put-decimal
     part-put-decimal-start
-    part-put-decimal-end
+    (search needs)
     put-decimal-requires
-    add-result
+    (search needs)
     same-length
     returns
-    put-decimal-requires-2
-    same-length-2
+    (search needs)
+    (search needs)
     returns-2)

@@ -6,12 +6,6 @@ use borrow.Author.Needs.{needs}
 use Rattle.words.proofs.content.Statement.{statement}
 use Rattle.words.proofs.content.Tie as tie
 
-until-requires : tie.Need-until-requires
-until-requires c κs = search needs
-
-trim-requires : tie.Need-trim-requires
-trim-requires c κs = search needs
-
 slice-aggregate-result : tie.Need-slice-aggregate-result
 slice-aggregate-result c = sym (length-take-le _ _ (c .before .trim .ensures .0))
 
@@ -20,4 +14,4 @@ unfolding content
 returns c = c .before .trim .ensures .1 ∙ ap trimmed (c .before .before .until .ensures)
 
 pub content-spec : {M : Type 1} → statement M
-content-spec = tie.close (tie.spec until-requires trim-requires slice-aggregate-result returns)
+content-spec = tie.close (tie.spec (search needs) (search needs) slice-aggregate-result returns)

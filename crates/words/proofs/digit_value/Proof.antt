@@ -7,9 +7,6 @@ use borrow.Author.Needs.{needs}
 use Rattle.words.proofs.digit_value.Statement.{statement}
 use Rattle.words.proofs.digit_value.Tie as tie
 
-is-digit-requires : tie.Need-is-digit-requires
-is-digit-requires c κs = search needs
-
 sub-result : tie.Need-sub-result
 sub-result c =
     let h = digit-bounds (c .before .before .args .x) (sym (c .before .is-digit .ensures) ∙ c .if1 .taken) in
@@ -21,9 +18,6 @@ returns c =
     let e = sym (c .before .is-digit .ensures) ∙ c .if1 .taken in
     let h = digit-bounds (c .before .before .args .x) e in
     (rw e, omega arith)
-
-is-capital-requires : tie.Need-is-capital-requires
-is-capital-requires c κs = search needs
 
 sub-result-2 : tie.Need-sub-result-2
 sub-result-2 c =
@@ -37,9 +31,6 @@ returns-2 c =
     let e = sym (c .before .is-capital .ensures) ∙ c .if2 .taken in
     let h = capital-bounds (c .before .before .before .before .args .x) e in
     (rw (d, e), omega arith)
-
-is-small-requires : tie.Need-is-small-requires
-is-small-requires c κs = search needs
 
 sub-result-3 : tie.Need-sub-result-3
 sub-result-3 c =
@@ -67,13 +58,13 @@ pub digit-value-spec : {M : Type 1} → statement M
 digit-value-spec =
     tie.close
     (tie.spec
-    is-digit-requires
+    (search needs)
     sub-result
     returns
-    is-capital-requires
+    (search needs)
     sub-result-2
     returns-2
-    is-small-requires
+    (search needs)
     sub-result-3
     returns-3
     returns-4)

@@ -4,15 +4,6 @@ use borrow.Author.Needs.{needs}
 use Rattle.words.proofs.is_hex_digit.Statement.{statement}
 use Rattle.words.proofs.is_hex_digit.Tie as tie
 
-is-digit-requires : tie.Need-is-digit-requires
-is-digit-requires c κs = search needs
-
-is-capital-requires : tie.Need-is-capital-requires
-is-capital-requires c κs = search needs
-
-is-small-requires : tie.Need-is-small-requires
-is-small-requires c κs = search needs
-
 returns : tie.Need-returns
 unfolding isHexDigit
 returns c = rw (← c .before .is-digit .ensures, c .if1 .taken)
@@ -28,4 +19,4 @@ returns-3 c = rw (← c .before .before .before .before .is-digit .ensures, c .b
 pub is-hex-digit-spec : {M : Type 1} → statement M
 is-hex-digit-spec =
     tie.close
-    (tie.spec is-digit-requires is-capital-requires is-small-requires returns returns-2 returns-3)
+    (tie.spec (search needs) (search needs) (search needs) returns returns-2 returns-3)

@@ -8,22 +8,13 @@ use borrow.Author.Needs.{needs}
 use Rattle.words.proofs.narrow_at.Statement.{statement}
 use Rattle.words.proofs.narrow_at.Tie as tie
 
-word-requires : tie.Need-word-requires
-word-requires c κs = search needs
-
-value-requires : tie.Need-value-requires
-value-requires c κs = search needs
-
 returns : tie.Need-returns
 unfolding narrowAt
 returns c = let e = c .before .value .ensures ∙ ap (λ (w : List ℕ). min 18446744073709551615 (valueOf w)) (c .before .before .word .ensures) in omega arith
-
-cast-result : tie.Need-cast-result
-cast-result c = search needs
 
 returns-2 : tie.Need-returns-2
 unfolding narrowAt
 returns-2 c = let e = c .before .value .ensures ∙ ap (λ (w : List ℕ). min 18446744073709551615 (valueOf w)) (c .before .before .word .ensures) in omega arith
 
 pub narrow-at-spec : {M : Type 1} → statement M
-narrow-at-spec = tie.close (tie.spec word-requires value-requires returns cast-result returns-2)
+narrow-at-spec = tie.close (tie.spec (search needs) (search needs) returns (search needs) returns-2)

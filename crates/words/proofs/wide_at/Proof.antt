@@ -7,15 +7,9 @@ use borrow.Author.Needs.{needs}
 use Rattle.words.proofs.wide_at.Statement.{statement}
 use Rattle.words.proofs.wide_at.Tie as tie
 
-word-requires : tie.Need-word-requires
-word-requires c κs = search needs
-
-value-requires : tie.Need-value-requires
-value-requires c κs = search needs
-
 returns : tie.Need-returns
 unfolding wideAt
 returns c = c .value .ensures ∙ ap (λ (w : List ℕ). min 18446744073709551615 (valueOf w)) (c .before .word .ensures)
 
 pub wide-at-spec : {M : Type 1} → statement M
-wide-at-spec = tie.close (tie.spec word-requires value-requires returns)
+wide-at-spec = tie.close (tie.spec (search needs) (search needs) returns)

@@ -3,11 +3,8 @@ use borrow.Author.Needs.{needs}
 use Rattle.account.proofs.Account.charged.Statement.{statement}
 use Rattle.account.proofs.Account.charged.Tie as tie
 
-debit-requires : tie.Need-debit-requires
-debit-requires c κs = search needs
-
 returns : tie.Need-returns
 returns c = rw (c .debit .ensures)
 
 pub charged-spec : {M : Type 1} → statement M
-charged-spec = tie.close (tie.spec debit-requires returns)
+charged-spec = tie.close (tie.spec (search needs) returns)

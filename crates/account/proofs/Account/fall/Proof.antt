@@ -7,35 +7,11 @@ use Rattle.account.proofs.Notes.{note-append}
 use Rattle.account.proofs.Account.fall.Statement.{statement}
 use Rattle.account.proofs.Account.fall.Tie as tie
 
-yuan-requires : tie.Need-yuan-requires
-yuan-requires c κs = search needs
-
-yuan-requires-2 : tie.Need-yuan-requires-2
-yuan-requires-2 c κs = search needs
-
 crosses-requires : tie.Need-crosses-requires
 crosses-requires c κs = rw (c .yuan .ensures) (omega arith)
 
-strike-requires : tie.Need-strike-requires
-strike-requires c κs = search needs
-
 crosses-requires-2 : tie.Need-crosses-requires-2
 crosses-requires-2 c κs = rw (c .yuan2 .ensures) (omega arith)
-
-strike-requires-2 : tie.Need-strike-requires-2
-strike-requires-2 c κs = search needs
-
-crosses-requires-3 : tie.Need-crosses-requires-3
-crosses-requires-3 c κs = search needs
-
-strike-requires-3 : tie.Need-strike-requires-3
-strike-requires-3 c κs = search needs
-
-sinks-requires : tie.Need-sinks-requires
-sinks-requires c κs = search needs
-
-strike-requires-4 : tie.Need-strike-requires-4
-strike-requires-4 c κs = search needs
 
 returns : tie.Need-returns
 unfolding fallValve fallCodes marks noteAll
@@ -50,14 +26,14 @@ pub fall-spec : {M : Type 1} → statement M
 fall-spec =
     tie.close
     (tie.spec
-    yuan-requires
+    (search needs)
     crosses-requires
-    strike-requires
-    yuan-requires-2
+    (search needs)
+    (search needs)
     crosses-requires-2
-    strike-requires-2
-    crosses-requires-3
-    strike-requires-3
-    sinks-requires
-    strike-requires-4
+    (search needs)
+    (search needs)
+    (search needs)
+    (search needs)
+    (search needs)
     returns)

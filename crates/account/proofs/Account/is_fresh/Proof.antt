@@ -5,12 +5,6 @@ use borrow.Author.Needs.{needs}
 use Rattle.account.proofs.Account.is_fresh.Statement.{statement}
 use Rattle.account.proofs.Account.is_fresh.Tie as tie
 
-at-or-below-requires : tie.Need-at-or-below-requires
-at-or-below-requires c κs = search needs
-
-negative-requires : tie.Need-negative-requires
-negative-requires c κs = search needs
-
 returns : tie.Need-returns
 unfolding freshAccount
 returns c = rw (← c .before .before .before .before .before .before .before .before .at-or-below .ensures, c .before .before .before .before .before .before .before .if1 .taken, ← c .before .before .before .before .before .before .negative .ensures, c .before .before .before .before .before .if2 .taken, eq-eqb _ _ (c .before .before .before .if3 .taken), eq-eqb _ _ (c .before .if4 .taken))
@@ -35,8 +29,8 @@ pub is-fresh-spec : {M : Type 1} → statement M
 is-fresh-spec =
     tie.close
     (tie.spec
-    at-or-below-requires
-    negative-requires
+    (search needs)
+    (search needs)
     returns
     returns-2
     returns-3

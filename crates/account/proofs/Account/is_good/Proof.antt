@@ -5,12 +5,6 @@ use Rattle.account.specs.Account.{accountGood}
 use Rattle.account.proofs.Account.is_good.Statement.{statement}
 use Rattle.account.proofs.Account.is_good.Tie as tie
 
-alarms-good-requires : tie.Need-alarms-good-requires
-alarms-good-requires c κs = search needs
-
-in-bounds-requires : tie.Need-in-bounds-requires
-in-bounds-requires c κs = search needs
-
 returns : tie.Need-returns
 unfolding accountGood
 returns c =
@@ -26,4 +20,4 @@ returns-3 c = rw (lt-leb _ _ (c .if1 .left))
 
 pub is-good-spec : {M : Type 1} → statement M
 is-good-spec =
-    tie.close (tie.spec alarms-good-requires in-bounds-requires returns returns-2 returns-3)
+    tie.close (tie.spec (search needs) (search needs) returns returns-2 returns-3)

@@ -4,9 +4,6 @@ use borrow.Author.Needs.{needs}
 use Rattle.account.proofs.Account.recharged.Statement.{statement}
 use Rattle.account.proofs.Account.recharged.Tie as tie
 
-in-millionths-requires : tie.Need-in-millionths-requires
-in-millionths-requires c κs = search needs
-
 credit-requires : tie.Need-credit-requires
 credit-requires c κs = (search needs, rw (c .in-millionths .ensures) (omega arith))
 
@@ -14,4 +11,4 @@ returns : tie.Need-returns
 returns c = rw (c .credit .ensures, c .before .in-millionths .ensures)
 
 pub recharged-spec : {M : Type 1} → statement M
-recharged-spec = tie.close (tie.spec in-millionths-requires credit-requires returns)
+recharged-spec = tie.close (tie.spec (search needs) credit-requires returns)

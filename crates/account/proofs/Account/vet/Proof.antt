@@ -26,9 +26,6 @@ returns-4 c =
     let high = again .before .before in
     rw (le-leb _ _ (high .before .if1 .left), le-leb _ _ (high .if2 .left), ne-eqb _ _ (again .if3 .left), lt-leb _ _ (c .if4 .taken))
 
-add-if5 : tie.Need-add-if5
-add-if5 c = search needs
-
 returns-5 : tie.Need-returns-5
 unfolding rechargeRefusal
 returns-5 c =
@@ -45,9 +42,6 @@ returns-6 c =
     let again = below .before .before in
     let high = again .before .before in
     rw (le-leb _ _ (high .before .if1 .left), le-leb _ _ (high .if2 .left), ne-eqb _ _ (again .if3 .left), le-leb _ _ (below .if4 .left), le-leb _ _ (over .if5 .left), lt-leb _ _ (c .if6 .taken))
-
-takes-requires : tie.Need-takes-requires
-takes-requires c κs = search needs
 
 returns-7 : tie.Need-returns-7
 unfolding rechargeRefusal
@@ -77,9 +71,9 @@ vet-spec =
     returns-2
     returns-3
     returns-4
-    add-if5
+    (search needs)
     returns-5
     returns-6
-    takes-requires
+    (search needs)
     returns-7
     returns-8)

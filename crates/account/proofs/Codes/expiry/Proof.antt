@@ -6,20 +6,11 @@ use Rattle.account.specs.Valve.{expiryCodes}
 use Rattle.account.proofs.Codes.expiry.Statement.{statement}
 use Rattle.account.proofs.Codes.expiry.Tie as tie
 
-none-requires : tie.Need-none-requires
-none-requires c κs = search needs
-
 returns : tie.Need-returns
 unfolding expiryCodes noteAll
 returns c =
     let s = c .before .before in
     rw (c .if1 .taken, and-false (s .args .was), and-false (s .args .opened)) (c .before .none .ensures)
-
-note-requires : tie.Need-note-requires
-note-requires c κs = search needs
-
-note-requires-2 : tie.Need-note-requires-2
-note-requires-2 c κs = search needs
 
 returns-2 : tie.Need-returns-2
 unfolding expiryCodes noteAll
@@ -32,9 +23,6 @@ unfolding expiryCodes noteAll
 returns-3 c =
     let w = c .before .before in
     rw (c .before .note .ensures, w .before .before .none .ensures, w .before .if1 .left, w .if2 .taken, c .if3 .left)
-
-note-requires-3 : tie.Need-note-requires-3
-note-requires-3 c κs = search needs
 
 returns-4 : tie.Need-returns-4
 unfolding expiryCodes noteAll
@@ -52,12 +40,12 @@ pub expiry-spec : {M : Type 1} → statement M
 expiry-spec =
     tie.close
     (tie.spec
-    none-requires
+    (search needs)
     returns
-    note-requires
-    note-requires-2
+    (search needs)
+    (search needs)
     returns-2
     returns-3
-    note-requires-3
+    (search needs)
     returns-4
     returns-5)

@@ -13,9 +13,6 @@ returns c =
     let s = c .before in
     rw (not-true (s .args .hit) (c .if1 .taken), and-true (s .args .self .opened))
 
-note-requires : tie.Need-note-requires
-note-requires c κs = search needs
-
 returns-2 : tie.Need-returns-2
 unfolding valveAfter markCodes noteAll
 returns-2 c =
@@ -30,9 +27,6 @@ returns-3 c =
     let s = w .before in
     rw (not-false (s .args .hit) (w .if1 .left), not-false (s .args .closes) (c .before .before .if2 .left), not-true (s .args .self .opened) (c .if3 .taken), c .before .before .before .note .ensures)
 
-note-requires-2 : tie.Need-note-requires-2
-note-requires-2 c κs = search needs
-
 returns-4 : tie.Need-returns-4
 unfolding valveAfter markCodes noteAll
 returns-4 c =
@@ -42,4 +36,4 @@ returns-4 c =
 
 pub strike-spec : {M : Type 1} → statement M
 strike-spec =
-    tie.close (tie.spec returns note-requires returns-2 returns-3 note-requires-2 returns-4)
+    tie.close (tie.spec returns (search needs) returns-2 returns-3 (search needs) returns-4)

@@ -6,15 +6,9 @@ use Rattle.account.specs.Valve.{commandCodes}
 use Rattle.account.proofs.Valve.command_codes.Statement.{statement}
 use Rattle.account.proofs.Valve.command_codes.Tie as tie
 
-note-requires : tie.Need-note-requires
-note-requires c κs = search needs
-
 returns : tie.Need-returns
 unfolding commandCodes noteAll
 returns c = rw (c .if1 .taken, and-false (c .before .before .args .self .opened)) (c .before .note .ensures)
-
-note-requires-2 : tie.Need-note-requires-2
-note-requires-2 c κs = search needs
 
 returns-2 : tie.Need-returns-2
 unfolding commandCodes noteAll
@@ -25,4 +19,4 @@ unfolding commandCodes noteAll
 returns-3 c = rw (c .before .before .note .ensures, c .before .if1 .left, c .if2 .left)
 
 pub command-codes-spec : {M : Type 1} → statement M
-command-codes-spec = tie.close (tie.spec note-requires returns note-requires-2 returns-2 returns-3)
+command-codes-spec = tie.close (tie.spec (search needs) returns (search needs) returns-2 returns-3)

@@ -3,11 +3,8 @@ use borrow.Author.Needs.{needs}
 use Rattle.account.proofs.Valve.commanded.Statement.{statement}
 use Rattle.account.proofs.Valve.commanded.Tie as tie
 
-kept-requires : tie.Need-kept-requires
-kept-requires c κs = search needs
-
 returns : tie.Need-returns
 returns c = rw (c .kept .ensures)
 
 pub commanded-spec : {M : Type 1} → statement M
-commanded-spec = tie.close (tie.spec kept-requires returns)
+commanded-spec = tie.close (tie.spec (search needs) returns)

@@ -9,12 +9,9 @@ returns : tie.Need-returns
 unfolding keyCodes noteAll
 returns c = rw (c .if1 .taken)
 
-note-requires : tie.Need-note-requires
-note-requires c κs = search needs
-
 returns-2 : tie.Need-returns-2
 unfolding keyCodes noteAll
 returns-2 c = rw (c .before .if1 .left) (c .note .ensures)
 
 pub key-codes-spec : {M : Type 1} → statement M
-key-codes-spec = tie.close (tie.spec returns note-requires returns-2)
+key-codes-spec = tie.close (tie.spec returns (search needs) returns-2)

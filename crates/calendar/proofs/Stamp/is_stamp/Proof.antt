@@ -4,9 +4,6 @@ use borrow.Author.Needs.{needs}
 use Rattle.calendar.proofs.Stamp.is_stamp.Statement.{statement}
 use Rattle.calendar.proofs.Stamp.is_stamp.Tie as tie
 
-is-date-requires : tie.Need-is-date-requires
-is-date-requires c κs = search needs
-
 returns : tie.Need-returns
 unfolding isStamp
 returns c = rw (← c .before .before .is-date .ensures, c .before .if1 .taken)
@@ -16,4 +13,4 @@ unfolding isStamp
 returns-2 c = rw (← c .before .is-date .ensures, c .if1 .left)
 
 pub is-stamp-spec : {M : Type 1} → statement M
-is-stamp-spec = tie.close (tie.spec is-date-requires returns returns-2)
+is-stamp-spec = tie.close (tie.spec (search needs) returns returns-2)

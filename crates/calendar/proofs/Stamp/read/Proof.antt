@@ -4,9 +4,6 @@ use borrow.Author.Needs.{needs}
 use Rattle.calendar.proofs.Stamp.read.Statement.{statement}
 use Rattle.calendar.proofs.Stamp.read.Tie as tie
 
-is-stamp-requires : tie.Need-is-stamp-requires
-is-stamp-requires c κs = search needs
-
 returns : tie.Need-returns
 unfolding dated
 returns c = rw (← c .before .is-stamp .ensures, c .if1 .taken)
@@ -16,4 +13,4 @@ unfolding dated
 returns-2 c = rw (← c .before .is-stamp .ensures, c .if1 .left)
 
 pub read-spec : {M : Type 1} → statement M
-read-spec = tie.close (tie.spec is-stamp-requires returns returns-2)
+read-spec = tie.close (tie.spec (search needs) returns returns-2)

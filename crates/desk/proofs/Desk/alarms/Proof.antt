@@ -7,15 +7,9 @@ use borrow.Author.Needs.{needs}
 use Rattle.desk.proofs.Desk.alarms.Statement.{statement}
 use Rattle.desk.proofs.Desk.alarms.Tie as tie
 
-alarms-requires : tie.Need-alarms-requires
-alarms-requires c κs = search needs
-
-ran-requires : tie.Need-ran-requires
-ran-requires c κs = search needs
-
 returns : tie.Need-returns
 unfolding enteredBook
 returns c = c .ran .ensures ∙ unfed (c .before .before .before .before .args .self) (call (c .before .before .before .before .args .p)) _ _ (c .before .alarms .ensures) refl
 
 pub alarms-spec : {M : Type 1} → statement M
-alarms-spec = tie.close (tie.spec alarms-requires ran-requires returns)
+alarms-spec = tie.close (tie.spec (search needs) (search needs) returns)

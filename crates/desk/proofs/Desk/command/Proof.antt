@@ -7,15 +7,9 @@ use borrow.Author.Needs.{needs}
 use Rattle.desk.proofs.Desk.command.Statement.{statement}
 use Rattle.desk.proofs.Desk.command.Tie as tie
 
-command-requires : tie.Need-command-requires
-command-requires c κs = search needs
-
-ran-requires : tie.Need-ran-requires
-ran-requires c κs = search needs
-
 returns : tie.Need-returns
 unfolding enteredBook
 returns c = c .ran .ensures ∙ unfed (c .before .before .before .before .args .self) (call (c .before .before .before .before .args .p)) _ _ (c .before .command .ensures) refl
 
 pub command-spec : {M : Type 1} → statement M
-command-spec = tie.close (tie.spec command-requires ran-requires returns)
+command-spec = tie.close (tie.spec (search needs) (search needs) returns)

@@ -7,15 +7,9 @@ use borrow.Author.Needs.{needs}
 use Rattle.desk.proofs.Desk.key.Statement.{statement}
 use Rattle.desk.proofs.Desk.key.Tie as tie
 
-key-requires : tie.Need-key-requires
-key-requires c κs = search needs
-
-ran-requires : tie.Need-ran-requires
-ran-requires c κs = search needs
-
 returns : tie.Need-returns
 unfolding enteredBook
 returns c = c .ran .ensures ∙ unfed (c .before .before .before .before .args .self) (call (c .before .before .before .before .args .p)) _ _ (c .before .key .ensures) refl
 
 pub key-spec : {M : Type 1} → statement M
-key-spec = tie.close (tie.spec key-requires ran-requires returns)
+key-spec = tie.close (tie.spec (search needs) (search needs) returns)

@@ -1,5 +1,5 @@
 -- Where the call is accepted the ledger is told its arguments.
-use mathlib.Core.Path.{_≡_, sym, ap, _∙_}
+use mathlib.Core.Path.{sym, ap, _∙_}
 use mathlib.Core.Bool.{true, false}
 use denote.Ref.{now}
 use Rattle.meter.specs.Call.{load as call}
@@ -10,24 +10,9 @@ use borrow.Author.Needs.{needs}
 use Rattle.desk.proofs.Desk.load.Statement.{statement}
 use Rattle.desk.proofs.Desk.load.Tie as tie
 
-load-requires : tie.Need-load-requires
-load-requires c κs = search needs
-
-accepted-requires : tie.Need-accepted-requires
-accepted-requires c κs = search needs
-
-loaded-requires : tie.Need-loaded-requires
-loaded-requires c κs = search needs
-
-ran-requires : tie.Need-ran-requires
-ran-requires c κs = search needs
-
 returns : tie.Need-returns
 unfolding fedBook enteredBook
 returns c = c .ran .ensures ∙ ap (ranBy _) (c .before .loaded .ensures) ∙ fed (c .before .before .before .before .before .before .before .before .before .args .self) (call (c .before .before .before .before .before .before .before .before .before .args .p) (now (c .before .before .before .before .before .before .before .before .before .args .bytes))) _ _ true (c .before .before .before .before .before .load .ensures) (sym (c .before .before .if1 .taken) ∙ c .before .before .before .accepted .ensures)
-
-ran-requires-2 : tie.Need-ran-requires-2
-ran-requires-2 c κs = search needs
 
 returns-2 : tie.Need-returns-2
 unfolding fedBook
@@ -36,4 +21,4 @@ returns-2 c = c .ran2 .ensures ∙ fed (c .before .before .before .before .befor
 pub load-spec : {M : Type 1} → statement M
 load-spec =
     tie.close
-    (tie.spec load-requires accepted-requires loaded-requires ran-requires returns ran-requires-2 returns-2)
+    (tie.spec (search needs) (search needs) (search needs) (search needs) returns (search needs) returns-2)

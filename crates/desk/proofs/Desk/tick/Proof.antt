@@ -7,15 +7,9 @@ use borrow.Author.Needs.{needs}
 use Rattle.desk.proofs.Desk.tick.Statement.{statement}
 use Rattle.desk.proofs.Desk.tick.Tie as tie
 
-tick-requires : tie.Need-tick-requires
-tick-requires c κs = search needs
-
-ran-requires : tie.Need-ran-requires
-ran-requires c κs = search needs
-
 returns : tie.Need-returns
 unfolding enteredBook
 returns c = c .ran .ensures ∙ unfed (c .before .before .before .before .args .self) (call (c .before .before .before .before .args .p)) _ _ (c .before .tick .ensures) refl
 
 pub tick-spec : {M : Type 1} → statement M
-tick-spec = tie.close (tie.spec tick-requires ran-requires returns)
+tick-spec = tie.close (tie.spec (search needs) (search needs) returns)

@@ -1,5 +1,5 @@
 -- The refusals in their order, then the turn, then the mark and the valve.
-use mathlib.Core.Path.{_≡_, refl, sym, ap, _∙_}
+use mathlib.Core.Path.{sym, _∙_}
 use borrow.Author.Needs.{needs}
 use Rattle.state.proofs.Rooms.{is-command, no-command}
 use Rattle.slots.specs.World.{real}

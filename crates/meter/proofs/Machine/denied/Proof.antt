@@ -5,18 +5,6 @@ use borrow.Author.Needs.{needs}
 use Rattle.meter.proofs.Machine.denied.Statement.{statement}
 use Rattle.meter.proofs.Machine.denied.Tie as tie
 
-enum-told : tie.Need-enum-told
-enum-told c = search needs
-
-refused-requires : tie.Need-refused-requires
-refused-requires c κs = search needs
-
-enum-known-a : tie.Need-enum-known-a
-enum-known-a c = search needs
-
-refused-requires-2 : tie.Need-refused-requires-2
-refused-requires-2 c κs = search needs
-
 returns : tie.Need-returns
 returns c = c .refused .ensures ∙ sym (ap (deniedOf (c .before .before .before .args .self)) (c .before .enum-told .given .1))
 
@@ -26,4 +14,4 @@ returns-2 c = c .refused2 .ensures ∙ sym (ap (deniedOf (c .before .before .bef
 pub denied-spec : {M : Type 1} → statement M
 denied-spec =
     tie.close
-    (tie.spec enum-told refused-requires enum-known-a refused-requires-2 returns returns-2)
+    (tie.spec (search needs) (search needs) (search needs) (search needs) returns returns-2)

@@ -1,5 +1,5 @@
 -- The refusals in their order, then the turn, then the valve opens.
-use mathlib.Core.Path.{_≡_, refl, sym, ap, _∙_}
+use mathlib.Core.Path.{sym, _∙_}
 use borrow.Author.Needs.{needs}
 use borrow.Author.Tests.{not-true, not-false}
 use Rattle.state.specs.Refusals.{keyAllowed}

@@ -1,5 +1,5 @@
 -- The refusals in their order, then the turn, then the slot takes the plan.
-use mathlib.Core.Path.{_≡_, refl, sym, ap, _∙_}
+use mathlib.Core.Path.{sym, ap, _∙_}
 use Prim.Native.Nat.{ℕ}
 use borrow.Author.Needs.{needs}
 use Rattle.account.specs.Codes.{noteAll}

@@ -1,5 +1,5 @@
 -- The refusals in their order, then the turn, then the balance grows.
-use mathlib.Core.Path.{_≡_, refl, sym, ap, _∙_}
+use mathlib.Core.Path.{sym, _∙_}
 use borrow.Author.Needs.{needs}
 use Rattle.account.specs.Codes.{noteAll}
 use Rattle.slots.proofs.Real.{real-laws}

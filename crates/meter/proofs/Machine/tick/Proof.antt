@@ -1,5 +1,5 @@
 -- The clock only: the day turns, and nothing else.
-use mathlib.Core.Path.{_≡_, refl, sym, ap, _∙_}
+use mathlib.Core.Path.{refl, sym, _∙_}
 use borrow.Author.Needs.{needs}
 use Rattle.account.specs.Codes.{noteAll}
 use Rattle.slots.specs.World.{real}

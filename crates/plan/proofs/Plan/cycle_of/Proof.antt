@@ -7,9 +7,6 @@ use borrow.Author.Needs.{needs}
 use Rattle.plan.proofs.Plan.cycle_of.Statement.{statement}
 use Rattle.plan.proofs.Plan.cycle_of.Tie as tie
 
-cycle-word-requires : tie.Need-cycle-word-requires
-cycle-word-requires c κs = search needs
-
 run-of-requires : tie.Need-run-of-requires
 run-of-requires c κs =
     let s = c .before .before in
@@ -20,13 +17,10 @@ returns : tie.Need-returns
 unfolding cycleOf
 returns c = rw (← c .before .before .cycle-word .ensures, eq-eqb _ _ (c .before .if1 .taken), c .run-of .ensures)
 
-cycle-start-requires : tie.Need-cycle-start-requires
-cycle-start-requires c κs = search needs
-
 returns-2 : tie.Need-returns-2
 unfolding cycleOf
 returns-2 c = rw (← c .before .before .cycle-word .ensures, ne-eqb _ _ (c .before .if1 .left), c .cycle-start .ensures)
 
 pub cycle-of-spec : {M : Type 1} → statement M
 cycle-of-spec =
-    tie.close (tie.spec cycle-word-requires run-of-requires returns cycle-start-requires returns-2)
+    tie.close (tie.spec (search needs) run-of-requires returns (search needs) returns-2)

@@ -4,15 +4,6 @@ use borrow.Author.Needs.{needs}
 use Rattle.plan.proofs.Plan.dates_good.Statement.{statement}
 use Rattle.plan.proofs.Plan.dates_good.Tie as tie
 
-is-date-requires : tie.Need-is-date-requires
-is-date-requires c κs = search needs
-
-is-date-requires-2 : tie.Need-is-date-requires-2
-is-date-requires-2 c κs = search needs
-
-extra-dates-good-requires : tie.Need-extra-dates-good-requires
-extra-dates-good-requires c κs = search needs
-
 returns : tie.Need-returns
 unfolding datesGood
 returns c =
@@ -39,9 +30,9 @@ pub dates-good-spec : {M : Type 1} → statement M
 dates-good-spec =
     tie.close
     (tie.spec
-    is-date-requires
-    is-date-requires-2
-    extra-dates-good-requires
+    (search needs)
+    (search needs)
+    (search needs)
     returns
     returns-2
     returns-3)

@@ -5,12 +5,6 @@ use borrow.Author.Needs.{needs}
 use Rattle.plan.proofs.Plan.end_day.Statement.{statement}
 use Rattle.plan.proofs.Plan.end_day.Tie as tie
 
-cycle-word-requires : tie.Need-cycle-word-requires
-cycle-word-requires c κs = search needs
-
-earlier-requires : tie.Need-earlier-requires
-earlier-requires c κs = search needs
-
 returns : tie.Need-returns
 unfolding endDay
 returns c = rw (← c .before .before .cycle-word .ensures, eq-eqb _ _ (c .before .if1 .taken), c .earlier .ensures)
@@ -20,4 +14,4 @@ unfolding endDay
 returns-2 c = rw (← c .before .cycle-word .ensures, ne-eqb _ _ (c .if1 .left))
 
 pub end-day-spec : {M : Type 1} → statement M
-end-day-spec = tie.close (tie.spec cycle-word-requires earlier-requires returns returns-2)
+end-day-spec = tie.close (tie.spec (search needs) (search needs) returns returns-2)

@@ -4,15 +4,6 @@ use borrow.Author.Needs.{needs}
 use Rattle.plan.proofs.Plan.extra_dates_good.Statement.{statement}
 use Rattle.plan.proofs.Plan.extra_dates_good.Tie as tie
 
-cycle-word-requires : tie.Need-cycle-word-requires
-cycle-word-requires c κs = search needs
-
-is-date-requires : tie.Need-is-date-requires
-is-date-requires c κs = search needs
-
-is-date-requires-2 : tie.Need-is-date-requires-2
-is-date-requires-2 c κs = search needs
-
 returns : tie.Need-returns
 returns c =
     let w = c .before .before .before in
@@ -29,9 +20,6 @@ returns-2 c =
     let w = c .before .before in
     rw (← w .before .cycle-word .ensures, eq-eqb _ _ (w .if1 .taken), ← c .before .is-date .ensures, c .if2 .left)
 
-is-date-requires-3 : tie.Need-is-date-requires-3
-is-date-requires-3 c κs = search needs
-
 returns-3 : tie.Need-returns-3
 returns-3 c =
     let w = c .before .before in
@@ -44,11 +32,11 @@ pub extra-dates-good-spec : {M : Type 1} → statement M
 extra-dates-good-spec =
     tie.close
     (tie.spec
-    cycle-word-requires
-    is-date-requires
-    is-date-requires-2
+    (search needs)
+    (search needs)
+    (search needs)
     returns
     returns-2
-    is-date-requires-3
+    (search needs)
     returns-3
     returns-4)

@@ -5,9 +5,6 @@ use borrow.Author.Needs.{needs}
 use Rattle.plan.proofs.Plan.extra_good.Statement.{statement}
 use Rattle.plan.proofs.Plan.extra_good.Tie as tie
 
-has-extra-requires : tie.Need-has-extra-requires
-has-extra-requires c κs = search needs
-
 returns : tie.Need-returns
 returns c = rw (fails (c .before .has-extra .ensures) (c .if1 .taken))
 
@@ -22,4 +19,4 @@ returns-3 c =
     rw (passes (e .before .has-extra .ensures) (e .if1 .left), lt-leb _ _ (c .if2 .left))
 
 pub extra-good-spec : {M : Type 1} → statement M
-extra-good-spec = tie.close (tie.spec has-extra-requires returns returns-2 returns-3)
+extra-good-spec = tie.close (tie.spec (search needs) returns returns-2 returns-3)

@@ -5,12 +5,6 @@ use borrow.Author.Needs.{needs}
 use Rattle.plan.proofs.Plan.first_day.Statement.{statement}
 use Rattle.plan.proofs.Plan.first_day.Tie as tie
 
-cycle-word-requires : tie.Need-cycle-word-requires
-cycle-word-requires c κs = search needs
-
-later-requires : tie.Need-later-requires
-later-requires c κs = search needs
-
 returns : tie.Need-returns
 unfolding firstDay
 returns c = rw (← c .before .before .cycle-word .ensures, eq-eqb _ _ (c .before .if1 .taken), c .later .ensures)
@@ -20,4 +14,4 @@ unfolding firstDay
 returns-2 c = rw (← c .before .cycle-word .ensures, ne-eqb _ _ (c .if1 .left))
 
 pub first-day-spec : {M : Type 1} → statement M
-first-day-spec = tie.close (tie.spec cycle-word-requires later-requires returns returns-2)
+first-day-spec = tie.close (tie.spec (search needs) (search needs) returns returns-2)

@@ -5,9 +5,6 @@ use borrow.Author.Needs.{needs}
 use Rattle.plan.proofs.Plan.has_extra.Statement.{statement}
 use Rattle.plan.proofs.Plan.has_extra.Tie as tie
 
-cycle-word-requires : tie.Need-cycle-word-requires
-cycle-word-requires c κs = search needs
-
 returns : tie.Need-returns
 unfolding hasExtra
 returns c = rw (← c .before .cycle-word .ensures, eq-eqb _ _ (c .if1 .taken))
@@ -17,4 +14,4 @@ unfolding hasExtra
 returns-2 c = rw (← c .before .cycle-word .ensures, ne-eqb _ _ (c .if1 .left))
 
 pub has-extra-spec : {M : Type 1} → statement M
-has-extra-spec = tie.close (tie.spec cycle-word-requires returns returns-2)
+has-extra-spec = tie.close (tie.spec (search needs) returns returns-2)

@@ -6,24 +6,15 @@ use borrow.Author.Needs.{needs}
 use Rattle.plan.proofs.Plan.in_force.Statement.{statement}
 use Rattle.plan.proofs.Plan.in_force.Tie as tie
 
-in-period-requires : tie.Need-in-period-requires
-in-period-requires c κs = search needs
-
 returns : tie.Need-returns
 unfolding inForce
 returns c = rw (fails (c .before .in-period .ensures) (c .if1 .taken))
-
-cycle-word-requires : tie.Need-cycle-word-requires
-cycle-word-requires c κs = search needs
 
 returns-2 : tie.Need-returns-2
 unfolding inForce
 returns-2 c =
     let e = c .before .before in
     rw (passes (e .before .in-period .ensures) (e .if1 .left), ← c .before .cycle-word .ensures, ne-eqb _ _ (c .if2 .taken))
-
-in-period-requires-2 : tie.Need-in-period-requires-2
-in-period-requires-2 c κs = search needs
 
 returns-3 : tie.Need-returns-3
 unfolding inForce
@@ -41,9 +32,9 @@ pub in-force-spec : {M : Type 1} → statement M
 in-force-spec =
     tie.close
     (tie.spec
-    in-period-requires
+    (search needs)
     returns
-    cycle-word-requires
+    (search needs)
     returns-2
-    in-period-requires-2
+    (search needs)
     returns-3)

@@ -3,9 +3,6 @@ use borrow.Author.Needs.{needs}
 use Rattle.plan.proofs.Plan.kept_extra.Statement.{statement}
 use Rattle.plan.proofs.Plan.kept_extra.Tie as tie
 
-has-extra-requires : tie.Need-has-extra-requires
-has-extra-requires c κs = search needs
-
 returns : tie.Need-returns
 returns c = rw (← c .before .has-extra .ensures, c .if1 .taken)
 
@@ -13,4 +10,4 @@ returns-2 : tie.Need-returns-2
 returns-2 c = rw (← c .before .has-extra .ensures, c .if1 .left)
 
 pub kept-extra-spec : {M : Type 1} → statement M
-kept-extra-spec = tie.close (tie.spec has-extra-requires returns returns-2)
+kept-extra-spec = tie.close (tie.spec (search needs) returns returns-2)

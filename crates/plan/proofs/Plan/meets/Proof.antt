@@ -4,27 +4,6 @@ use borrow.Author.Needs.{needs}
 use Rattle.plan.proofs.Plan.meets.Statement.{statement}
 use Rattle.plan.proofs.Plan.meets.Tie as tie
 
-first-day-requires : tie.Need-first-day-requires
-first-day-requires c κs = search needs
-
-first-day-requires-2 : tie.Need-first-day-requires-2
-first-day-requires-2 c κs = search needs
-
-later-requires : tie.Need-later-requires
-later-requires c κs = search needs
-
-later-requires-2 : tie.Need-later-requires-2
-later-requires-2 c κs = search needs
-
-end-day-requires : tie.Need-end-day-requires
-end-day-requires c κs = search needs
-
-end-day-requires-2 : tie.Need-end-day-requires-2
-end-day-requires-2 c κs = search needs
-
-earlier-requires : tie.Need-earlier-requires
-earlier-requires c κs = search needs
-
 returns : tie.Need-returns
 unfolding meet
 returns c =
@@ -43,11 +22,11 @@ pub meets-spec : {M : Type 1} → statement M
 meets-spec =
     tie.close
     (tie.spec
-    first-day-requires
-    first-day-requires-2
-    later-requires
-    later-requires-2
-    end-day-requires
-    end-day-requires-2
-    earlier-requires
+    (search needs)
+    (search needs)
+    (search needs)
+    (search needs)
+    (search needs)
+    (search needs)
+    (search needs)
     returns)

@@ -5,12 +5,6 @@ use borrow.Author.Needs.{needs}
 use Rattle.plan.proofs.Plan.numbers_good.Statement.{statement}
 use Rattle.plan.proofs.Plan.numbers_good.Tie as tie
 
-extra-good-requires : tie.Need-extra-good-requires
-extra-good-requires c κs = search needs
-
-pairs-good-requires : tie.Need-pairs-good-requires
-pairs-good-requires c κs = search needs
-
 returns : tie.Need-returns
 unfolding numbersGood
 returns c =
@@ -45,4 +39,4 @@ returns-4 c = rw (lt-leb _ _ (c .if1 .left))
 pub numbers-good-spec : {M : Type 1} → statement M
 numbers-good-spec =
     tie.close
-    (tie.spec extra-good-requires pairs-good-requires returns returns-2 returns-3 returns-4)
+    (tie.spec (search needs) (search needs) returns returns-2 returns-3 returns-4)

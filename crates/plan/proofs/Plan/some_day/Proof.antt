@@ -9,9 +9,6 @@ returns : tie.Need-returns
 unfolding someDay
 returns c = rw (le-ltb _ _ (c .if1 .taken))
 
-cycle-word-requires : tie.Need-cycle-word-requires
-cycle-word-requires c κs = search needs
-
 returns-2 : tie.Need-returns-2
 unfolding someDay
 returns-2 c =
@@ -72,4 +69,4 @@ returns-6 c =
 pub some-day-spec : {M : Type 1} → statement M
 some-day-spec =
     tie.close
-    (tie.spec returns cycle-word-requires returns-2 returns-3 returns-4 returns-5 returns-6)
+    (tie.spec returns (search needs) returns-2 returns-3 returns-4 returns-5 returns-6)

@@ -6,15 +6,9 @@ use borrow.Author.Needs.{needs}
 use Rattle.plan.proofs.Plan.vet.Statement.{statement}
 use Rattle.plan.proofs.Plan.vet.Tie as tie
 
-steps-good-requires : tie.Need-steps-good-requires
-steps-good-requires c κs = search needs
-
 returns : tie.Need-returns
 unfolding verdict
 returns c = rw (fails (c .before .steps-good .ensures) (c .if1 .taken))
-
-word-good-requires : tie.Need-word-good-requires
-word-good-requires c κs = search needs
 
 returns-2 : tie.Need-returns-2
 unfolding verdict
@@ -43,9 +37,6 @@ returns-3 c =
       fails (n .numbers-good .ensures) (c .if3 .taken),
     )
 
-dates-good-requires : tie.Need-dates-good-requires
-dates-good-requires c κs = search needs
-
 returns-4 : tie.Need-returns-4
 unfolding verdict
 returns-4 c =
@@ -59,9 +50,6 @@ returns-4 c =
       passes (n .numbers-good .ensures) (d .before .if3 .left),
       fails (d .dates-good .ensures) (c .if4 .taken),
     )
-
-some-day-requires : tie.Need-some-day-requires
-some-day-requires c κs = search needs
 
 returns-5 : tie.Need-returns-5
 unfolding verdict
@@ -125,15 +113,15 @@ pub vet-spec : {M : Type 1} → statement M
 vet-spec =
     tie.close
     (tie.spec
-    steps-good-requires
+    (search needs)
     returns
-    word-good-requires
+    (search needs)
     returns-2
     numbers-good-requires
     returns-3
-    dates-good-requires
+    (search needs)
     returns-4
-    some-day-requires
+    (search needs)
     returns-5
     all-priced-requires
     returns-6

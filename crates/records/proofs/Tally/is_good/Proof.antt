@@ -4,12 +4,6 @@ use Rattle.records.specs.Bounds.{tallyGood}
 use Rattle.records.proofs.Tally.is_good.Statement.{statement}
 use Rattle.records.proofs.Tally.is_good.Tie as tie
 
-at-most-requires : tie.Need-at-most-requires
-at-most-requires c κs = search needs
-
-in-bounds-requires : tie.Need-in-bounds-requires
-in-bounds-requires c κs = search needs
-
 returns : tie.Need-returns
 unfolding tallyGood
 returns c = rw (← c .before .before .at-most .ensures, c .before .if1 .taken, c .in-bounds .ensures)
@@ -19,4 +13,4 @@ unfolding tallyGood
 returns-2 c = rw (← c .before .at-most .ensures, c .if1 .left)
 
 pub is-good-spec : {M : Type 1} → statement M
-is-good-spec = tie.close (tie.spec at-most-requires in-bounds-requires returns returns-2)
+is-good-spec = tie.close (tie.spec (search needs) (search needs) returns returns-2)

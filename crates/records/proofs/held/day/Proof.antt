@@ -1,6 +1,5 @@
 -- No more are counted than the words hold.
 use native.Mathlib.Omega.{arith}
-use borrow.Author.Needs.{needs}
 use Rattle.records.proofs.AfterTurn.{held-long}
 use Rattle.records.proofs.held.day.Statement.{statement}
 use Rattle.records.proofs.held.day.Tie as tie

@@ -1,5 +1,5 @@
 -- The held days are passed one by one while they are lighter; the first that is not is named.
-use mathlib.Core.Path.{_≡_, refl, sym, ap, _∙_}
+use mathlib.Core.Path.{refl, sym, _∙_}
 use Prim.Native.Nat.{ℕ, _≤_, _<_, _-_}
 use native.Mathlib.Omega.{arith}
 use native.Mathlib.Nat.{not-le-of-lt}
@@ -7,7 +7,6 @@ use lib.ListN.{getD}
 use borrow.Author.Needs.{needs}
 use borrow.Author.Count.{below-more}
 use borrow.Author.Tests.{leb-true, leb-false}
-use Rattle.records.specs.declared.Record.{Record}
 use Rattle.records.specs.Queries.{IsHeavy}
 use Rattle.records.specs.Words.{heldFrom}
 use Rattle.records.proofs.AfterTurn.{held-long}

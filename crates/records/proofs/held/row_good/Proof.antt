@@ -1,5 +1,4 @@
 -- The three tests stand in the order of the definition; the closing balance is tested on its word.
-use native.Mathlib.Omega.{arith}
 use borrow.Author.Needs.{needs}
 use borrow.Author.Tests.{le-leb, lt-leb}
 use Rattle.records.specs.Bounds.{recordGood}

@@ -7,18 +7,9 @@ use borrow.Author.Needs.{needs}
 use Rattle.state.proofs.Registers.bounded_on.Statement.{statement}
 use Rattle.state.proofs.Registers.bounded_on.Tie as tie
 
-is-fresh-requires : tie.Need-is-fresh-requires
-is-fresh-requires c κs = search needs
-
 returns : tie.Need-returns
 unfolding bounded stateWith
 returns c = rw (eq-eqb _ _ (c .before .if1 .taken), c .is-fresh .ensures)
-
-is-stamp-requires : tie.Need-is-stamp-requires
-is-stamp-requires c κs = search needs
-
-state-good-requires : tie.Need-state-good-requires
-state-good-requires c κs = search needs
 
 returns-2 : tie.Need-returns-2
 unfolding bounded stampGood isStamp stateWith
@@ -31,4 +22,4 @@ returns-3 c = rw (ne-eqb _ _ (c .before .before .if1 .left), ← c .before .is-s
 pub bounded-on-spec : {M : Type 1} → statement M
 bounded-on-spec =
     tie.close
-    (tie.spec is-fresh-requires returns is-stamp-requires state-good-requires returns-2 returns-3)
+    (tie.spec (λ c κs. search needs) returns (λ c κs. search needs) (λ c κs. search needs) returns-2 returns-3)

@@ -1,8 +1,7 @@
 use Rattle.state.specs.Bounds.{isFresh}
 use Rattle.state.specs.State.{stateWith}
 use borrow.Author.Tests.{eq-eqb, ne-eqb}
-use Prim.Native.Nat.{ℕ, _≤_, _<_, _+_, _-_, _*_}
-use native.Mathlib.Omega.{arith}
+use Prim.Native.Nat.{_-_}
 use borrow.Author.Needs.{needs}
 use Rattle.state.proofs.Registers.is_fresh.Statement.{statement}
 use Rattle.state.proofs.Registers.is_fresh.Tie as tie

@@ -1,8 +1,7 @@
 use Rattle.slots.specs.Bounds.{idleGood}
 use Rattle.state.specs.Bounds.{stateGood}
 use Rattle.state.specs.State.{stateWith}
-use Prim.Native.Nat.{ℕ, _≤_, _<_, _+_, _-_, _*_}
-use native.Mathlib.Omega.{arith}
+use Prim.Native.Nat.{_-_}
 use borrow.Author.Needs.{needs}
 use Rattle.state.proofs.Registers.state_good.Statement.{statement}
 use Rattle.state.proofs.Registers.state_good.Tie as tie

@@ -1,5 +1,4 @@
-use Prim.Native.Nat.{ℕ, _≤_, _<_, _+_, _-_, _*_}
-use native.Mathlib.Omega.{arith}
+use Prim.Native.Nat.{_≤_, _-_}
 use borrow.Author.Needs.{needs}
 use Rattle.worked_sums.proofs.same.words.Statement.{statement}
 use Rattle.worked_sums.proofs.same.words.Tie as tie
