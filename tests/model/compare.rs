@@ -85,7 +85,10 @@ impl Pair {
         marks::accepted(&scene.expect("an accepted call"), model, call, codes, tally);
         match difference(model, &self.host) {
             Some(difference) => Err(format!("both: {}\n{difference}", words(&answer))),
-            None => loaded_exactly(call, model, &self.host).map(|()| true),
+            None => {
+                rest_stands(&before.journal, &self.host.journal)?;
+                loaded_exactly(call, model, &self.host).map(|()| true)
+            }
         }
     }
 }
@@ -108,6 +111,13 @@ pub fn unchanged(before: &library::Meter, after: &library::Meter) -> Result<(), 
     let days = new.days.held.iter().zip(&old.days.held).map(|pair| ("day", pair));
     let months = new.months.held.iter().zip(&old.months.held).map(|pair| ("month", pair));
     days.chain(months).try_for_each(|(what, (new, old))| same(&format!("{refused} a {what} record"), new, old))
+}
+
+/// A new record moves those that are held and no more: records behind the held ones stand as they were.
+fn rest_stands(old: &library::Journal, new: &library::Journal) -> Result<(), Difference> {
+    let days = new.days.held.iter().zip(&old.days.held).skip(new.days.count).map(|pair| ("day", pair));
+    let months = new.months.held.iter().zip(&old.months.held).skip(new.months.count).map(|pair| ("month", pair));
+    days.chain(months).try_for_each(|(what, (new, old))| same(&format!("a {what} record that is not held"), new, old))
 }
 
 /// The reader sets what is not read to zero.

@@ -5,10 +5,12 @@ use plan::Plan;
 use units::Hundredths;
 use units::TenThousandths;
 ghost use mathlib.Core.Path.{_≡_};
+ghost use mathlib.Core.List.{_++_};
 ghost use Prim.Native.Nat.{_+_, _≤_, _<_};
-ghost use lib.ListN.{length, getD};
+ghost use lib.ListN.{length};
+ghost use lib.Seq.{sets};
 ghost use Rattle.record.specs.Digits.{pairOf, byteOf, twoDigits, numberOf, quadOf, quadAt, fourBytes};
-ghost use Rattle.record.specs.Fields.{fieldsOf, pairBytes, bytesOf};
+ghost use Rattle.record.specs.Fields.{fieldsOf, bytesOf};
 ghost use Rattle.record.specs.Record.{readingOf, readOf, writeAnswer, written};
 ghost use Rattle.record.specs.Choice.{which, choiceOf, partOf, numberOf as refusalOf, handed};
 
@@ -136,60 +138,24 @@ fn bcd(x: u64) -> u8
     (x / 10 * 16 + x % 10) as u8
 }
 
-// Byte k of the four that a number is written in.
-fn quad_byte(x: u64, k: usize) -> u8
-    requires { ⌜ k < 4 ⌝ }
-    ensures { λ r. ⌜ r ≡ getD (fourBytes x) k 0 ⌝ }
+// Writes a number of eight digits into the four bytes that begin at byte `at`.
+fn put_quad(x: u64, at: usize, out: &mut [u8])
+    requires { ⌜ at + 4 ≤ length (now out) ⌝ }
+    ensures { λ _. ⌜ now (out .exit) ≡ sets (now (out .entry)) at (fourBytes x) ⌝ }
 {
-    if k < 1 {
-        return bcd(x / 1_000_000 % 100);
-    }
-    if k < 2 {
-        return bcd(x / 10_000 % 100);
-    }
-    if k < 3 {
-        return bcd(x / 100 % 100);
-    }
-    bcd(x % 100)
+    out[at] = bcd(x / 1_000_000 % 100);
+    out[at + 1] = bcd(x / 10_000 % 100);
+    out[at + 2] = bcd(x / 100 % 100);
+    out[at + 3] = bcd(x % 100);
 }
 
-// Byte k of the eight of pair i.
-fn pair_byte(p: Plan, i: usize, k: usize) -> u8
-    requires { ⌜ (i < 6) × (k < 8) ⌝ }
-    ensures { λ r. ⌜ r ≡ getD (pairBytes p i) k 0 ⌝ }
+// Writes two numbers, one behind the other, into the eight bytes that begin at byte `at`.
+fn put_two(x: u64, y: u64, at: usize, out: &mut [u8])
+    requires { ⌜ at + 8 ≤ length (now out) ⌝ }
+    ensures { λ _. ⌜ now (out .exit) ≡ sets (now (out .entry)) at (fourBytes x ++ fourBytes y) ⌝ }
 {
-    let width = p.widths[i];
-    let price = p.prices[i];
-    if k < 4 {
-        return quad_byte(width.0 as u64, k);
-    }
-    quad_byte(price.0, k - 4)
-}
-
-// Byte i of a plan's record.
-fn byte_at(p: Plan, i: usize) -> u8
-    requires { ⌜ i < 66 ⌝ }
-    ensures { λ r. ⌜ r ≡ getD (bytesOf p) i 0 ⌝ }
-{
-    if i < 4 {
-        return quad_byte(p.start as u64, i);
-    }
-    if i < 8 {
-        return quad_byte(p.end as u64, i - 4);
-    }
-    if i < 9 {
-        return p.steps;
-    }
-    if i < 10 {
-        return p.word;
-    }
-    if i < 14 {
-        return quad_byte(p.first as u64, i - 10);
-    }
-    if i < 18 {
-        return quad_byte(p.second as u64, i - 14);
-    }
-    pair_byte(p, (i - 18) / 8, (i - 18) % 8)
+    put_quad(x, at, out);
+    put_quad(y, at + 4, out);
 }
 
 // Fills a buffer with the bytes of a plan, every field of it.
@@ -197,9 +163,15 @@ fn put(p: Plan, out: &mut [u8])
     requires { ⌜ length (now out) ≡ 66 ⌝ }
     ensures { λ _. ⌜ now (out .exit) ≡ bytesOf p ⌝ }
 {
+    put_two(p.start as u64, p.end as u64, 0, out);
+    out[8] = p.steps;
+    out[9] = p.word;
+    put_two(p.first as u64, p.second as u64, 10, out);
     let mut i = 0;
-    while i < 66 {
-        out[i] = byte_at(p, i);
+    while i < 6 {
+        let width = p.widths[i];
+        let price = p.prices[i];
+        put_two(width.0 as u64, price.0, 18 + 8 * i, out);
         i += 1;
     }
 }

@@ -10,11 +10,10 @@ use units::Charge;
 use units::Hundredths;
 use units::Millionths;
 ghost use mathlib.Core.Path.{_≡_};
-ghost use Prim.Native.Nat.{_+_, _-_, _*_, _^_, _≤_, _<_, min};
+ghost use Prim.Native.Nat.{_+_, _-_, _*_, _≤_, _<_, min};
 ghost use lib.ListN.{length, getD};
 ghost use Rattle.units.specs.Money.{money};
-ghost use Rattle.units.specs.Volume.{mostOf};
-ghost use Rattle.records.specs.Bounds.{recordGood, recordsGood, heldGood, freshHeld};
+ghost use Rattle.records.specs.Bounds.{recordsGood, heldGood, freshHeld};
 ghost use Rattle.records.specs.Queries.{fetched, HeavyDay};
 ghost use Rattle.records.specs.Turn.{opened};
 ghost use Rattle.records.specs.Words.{balanceOf, balanceWord, recordFrom, recordAt, dateWord, rows, heldFrom, heldOf, noWords};
@@ -86,35 +85,14 @@ fn record_at(h: &Words, i: usize) -> Record
     record_from(h[i], h[i + 1], h[i + 2])
 }
 
-// Whether the record of three words keeps the bounds; `most` is what the total can cost at most. A balance below
-// zero is a word from 2^63 on.
-fn row_good(a: u64, b: u64, c: u64, total: u64, most: u64) -> bool
-    requires { ⌜ (total < 2 ^ 32) × (most ≡ mostOf total) ⌝ }
-    ensures { λ r. ⌜ r ≡ recordGood total (recordFrom a b c) ⌝ }
-{
-    if a / 4_294_967_296 > total {
-        return false;
-    }
-    if b > most {
-        return false;
-    }
-    if c <= 999_999_990_000 {
-        return true;
-    }
-    18_446_744_073_709_551_615 - c < most
-}
-
 // Whether the first n records behind the count at `from` keep the bounds.
 fn rows_good(h: &Words, from: usize, n: usize, total: Hundredths) -> bool
     requires { ⌜ from + 3 * n < 548 ⌝ }
     ensures { λ r. ⌜ r ≡ recordsGood (total .0) (rows (now (h .entry)) (from + 1) n) ⌝ }
 {
-    let all = total.0 as u64;
-    let most = total.most().0;
     let mut i = 0usize;
     while i < n {
-        let at = from + 3 * i + 1;
-        if !row_good(h[at], h[at + 1], h[at + 2], all, most) {
+        if !record_at(h, from + 3 * i + 1).is_good(total) {
             return false;
         }
         i += 1;

@@ -1,52 +1,32 @@
--- Before turn i the first i bytes are the record's, and the others as they were.
+-- Before turn i the fields in front and the first i pairs are written.
 use mathlib.Core.Path.{_≡_, refl}
 use Prim.Native.Nat.{_≤_, _-_}
 use native.Mathlib.Omega.{arith}
+use native.Mathlib.Numerals.{add-one}
 use lib.ListN.{length, length-set}
 use borrow.Author.Needs.{needs}
-use Rattle.record.specs.Fields.{bytesOf}
-use Rattle.record.proofs.Bytes.{filled, turn, done, bytes-length}
+use Rattle.record.proofs.Bytes.{pairsIn, all-in}
 use Rattle.record.proofs.put.Statement.{statement}
 use Rattle.record.proofs.put.Tie as tie
 
 abbrev Inv-loop : tie.InvT-loop
-Inv-loop p out₀ i₀ out i = (i ≤ 66) × (out ≡ filled (bytesOf p) out₀ i) × (length out ≡ 66)
+Inv-loop out₀ p i₀ out i = (i ≤ 6) × (out ≡ pairsIn p out₀ i) × (length out ≡ 66)
 
 abbrev μ-loop : tie.MeasureT-loop
-μ-loop p out₀ i₀ out i = 66 - i
-
-loop-holds : tie.Need-loop-holds Inv-loop μ-loop
-loop-holds c = (search needs, refl, search needs)
-
-byte-at-requires : tie.Need-byte-at-requires Inv-loop μ-loop
-byte-at-requires c κs = search needs
-
-slice-write-out : tie.Need-slice-write-out Inv-loop μ-loop
-slice-write-out c = omega arith
-
-add-i : tie.Need-add-i Inv-loop μ-loop
-add-i c = search needs
-
-loop-less : tie.Need-loop-less Inv-loop μ-loop
-loop-less c = search needs
+μ-loop out₀ p i₀ out i = 6 - i
 
 loop-again : tie.Need-loop-again Inv-loop μ-loop
 loop-again c =
-    let a = c .before .before .before .before .args in
-    let b = bytes-length (a .p) in (
-      search needs,
-      turn (bytesOf (a .p)) (a .out .now) (c .before .before .loop .inv .1) (c .byte-at .ensures) (omega arith) (omega arith),
-      simp length-set (omega arith),
-    )
-
-same-length : tie.Need-same-length Inv-loop μ-loop
-same-length c = omega arith
+    let t = c .before .before in
+    (search needs, rw (t .put-two3 .ensures, t .before .before .before .before .before .before .loop .inv .1, add-one), search needs)
 
 returns : tie.Need-returns Inv-loop μ-loop
 returns c =
-    let a = c .before .before .before .args in
-    let b = bytes-length (a .p) in
-    done (bytesOf (a .p)) (a .out .now) (c .before .loop .i) (c .before .loop .inv .1) (omega arith) (omega arith)
+    let l = c .before .loop in
+    let t = c .before .before .before .before in
+    let a = t .before .before .before .before .before .before .before in
+    let six : l .i ≡ 6 = omega arith in
+    rw (l .inv .1, six, t .put-two2 .ensures, t .before .before .before .before .put-two .ensures) (all-in (a .args .t1) (a .args .out .now) (search needs))
 
 pub put-spec : {M : Type 1} → statement M
 put-spec =
@@ -54,11 +34,25 @@ put-spec =
     (tie.spec
     Inv-loop
     μ-loop
-    loop-holds
-    byte-at-requires
-    slice-write-out
-    add-i
-    loop-less
+    (search needs)
+    (search needs)
+    (search needs)
+    (search needs)
+    (λ c. simp length-set (omega arith))
+    (search needs)
+    (search needs)
+    (λ c κs. simp length-set (omega arith))
+    (λ c. (search needs, refl, rw (c .before .before .put-two2 .ensures) (simp length-set (omega arith))))
+    (search needs)
+    (search needs)
+    (search needs)
+    (search needs)
+    (search needs)
+    (search needs)
+    (search needs)
+    (search needs)
+    (search needs)
+    (search needs)
     loop-again
-    same-length
+    (search needs)
     returns)
