@@ -4,6 +4,8 @@ use crate::Volumes;
 use records::held;
 use records::held::Words;
 ghost use mathlib.Core.Path.{_≡_};
+ghost use Rattle.records.specs.Words.{heldOf};
+ghost use Rattle.records.specs.Bounds.{heldGood};
 ghost use Rattle.slots.specs.World.{real};
 ghost use Rattle.slots.specs.Slots.{someForce};
 ghost use Rattle.state.specs.State.{stateOf};
@@ -35,7 +37,9 @@ impl Registers {
                             && (self.periods.is_fresh() && held::is_fresh(words))))))
     }
 
-    fn state_good(self, words: &Words, some: bool) -> bool
+    // `kept`: the held records keep the bounds; they are tested first, while little else is in the processor's registers.
+    fn state_good(self, words: &Words, kept: bool, some: bool) -> bool
+        requires { ⌜ kept ≡ heldGood (self .volumes .total .0) (heldOf (now words)) ⌝ }
         requires { ⌜ some ≡ someForce real (self .slots) (self .clock .date) ⌝ }
         ensures { λ r. ⌜ r ≡ stateGood real (stateOf self (now (words .entry))) ⌝ }
     {
@@ -43,8 +47,7 @@ impl Registers {
             && (self.account.is_good(self.volumes.total)
                 && (self.slots.is_good(self.clock.date, self.volumes.total)
                     && (self.periods.is_good(self.volumes.total)
-                        && (held::is_good(words, self.volumes.total)
-                            && self.slots.idle_good(some, self.valve.opened)))))
+                        && (kept && self.slots.idle_good(some, self.valve.opened)))))
     }
 
     // Whether the meter is within its bounds, `some` being whether a plan is in force on the clock's date.
@@ -52,10 +55,11 @@ impl Registers {
         requires { ⌜ some ≡ someForce real (self .slots) (self .clock .date) ⌝ }
         ensures { λ r. ⌜ r ≡ bounded real (stateOf self (now (words .entry))) ⌝ }
     {
+        let kept = held::is_good(words, self.volumes.total);
         if self.clock.date == 0 {
             return self.is_fresh(words);
         }
-        self.clock.is_stamp() && self.state_good(words, some)
+        self.clock.is_stamp() && self.state_good(words, kept, some)
     }
 
     // Whether the meter is within its bounds: refusal 0 where it is not.

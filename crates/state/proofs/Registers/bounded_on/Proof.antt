@@ -19,7 +19,10 @@ returns-3 : tie.Need-returns-3
 unfolding bounded stampGood isStamp stateWith
 returns-3 c = rw (ne-eqb _ _ (c .before .before .if1 .left), ← c .before .is-stamp .ensures, c .if2 .left)
 
+state-good-requires : tie.Need-state-good-requires
+state-good-requires c κs = let g = c .before .before .before .before in (g .is-good .ensures, g .before .pre)
+
 pub bounded-on-spec : {M : Type 1} → statement M
 bounded-on-spec =
     tie.close
-    (tie.spec (λ c κs. search needs) returns (λ c κs. search needs) (λ c κs. search needs) returns-2 returns-3)
+    (tie.spec (search needs) (search needs) returns (search needs) state-good-requires returns-2 returns-3)
