@@ -77,10 +77,10 @@ def main():
         lines.append('| %s | %.0f | %.0f | %.2f | %s | %s | %.2f |' % (what, ours, plain, ours / plain, f'{a:,.0f}', f'{b:,.0f}', a / b))
         print(lines[-1], flush=True)
     lines += ['', '| Call | Bytes of stack |', '|---|---|']
-    for line in run(ROOM + '/stack').splitlines():
-        what, size = line.rsplit(None, 1)
+    *calls, (_, meter) = (line.rsplit(None, 1) for line in run(ROOM + '/stack').splitlines())
+    for what, size in calls:
         lines.append('| %s | %s |' % (what, f'{int(size):,}'))
-    lines += ['', 'Code of all functions of the header: %s bytes. A meter: %s bytes.' % (f'{code_size():,}', '4,680')]
+    lines += ['', 'Code of all functions of the header: %s bytes. A meter: %s bytes.' % (f'{code_size():,}', f'{int(meter):,}')]
     print('\n'.join(lines[2 + len(ROWS):]))
     page = open(PAGE, encoding='utf-8').read()
     first, last = '<!-- written by bench/core.py -->\n', '<!-- end -->\n'

@@ -139,5 +139,6 @@ int main(void) {
         harpdapple_recharge(&meter, (struct harpdapple_recharge_call){today, 1000000, 1});
         printf("%s %zu\n", calls[i].name, used(calls[i].call) - none);
     }
+    printf("a meter %zu\n", sizeof meter);
     return 0;
 }
