@@ -58,7 +58,9 @@ class Edit:
                 return None
             if at < text.find('\n' + head.group(1) + '{\n', head.end()) + 1:
                 return None  # in the contract
-            owner = re.findall(r'^impl (\w+)', text[:head.start()], re.M)[-1:] if head.group(1) else []
+            module = os.path.basename(place)[:-len('.rt')]
+            owner = re.findall(r'^impl (\w+)', text[:head.start()], re.M)[-1:] if head.group(1) else [module]
+            owner = [] if owner in (['lib'], ['main']) else owner
             proofs.add('/'.join(['proofs'] + owner + [head.group(2), 'Proof.antt']))
         proof = proofs.pop() if len(proofs) == 1 else None
         return proof if proof and os.path.exists(os.path.join(ROOT, 'crates', self.crate, proof)) else None
