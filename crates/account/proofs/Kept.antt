@@ -21,7 +21,7 @@ use Rattle.account.specs.Account.{rechargeRefusal, recharged, alarmsGood
 record Parts (a : Account) (total : ℕ) : Type 0 where
   serial : a .serial ≤ 65535
   alarms : alarmsGood (a .one) (a .two) ≡ true
-  bounds : inBounds (a .balance .0) total ≡ true
+  bounds : inBounds highestBalance (a .balance .0) total ≡ true
 
 good-parts : (a : Account) (total : ℕ) → accountGood a total ≡ true → Parts a total
 unfolding accountGood
@@ -50,7 +50,7 @@ pub record Room (a : Account) (total : ℕ) : Type 0 where
   pub serial : a .serial ≤ 65535
   pub one : a .one ≤ 999999
   pub two : a .two ≤ 999999
-  pub bounds : inBounds (a .balance .0) total ≡ true
+  pub bounds : inBounds highestBalance (a .balance .0) total ≡ true
   pub alarms : alarmsGood (a .one) (a .two) ≡ true
 
 -- an account in its bounds has that room
@@ -59,7 +59,7 @@ account-room a total e h =
     let p = good-parts a total e in
     let o = alarms-order (a .one) (a .two) (p .alarms) in
     record {
-      small = in-small (a .balance .0) total h (p .bounds);
+      small = in-small highestBalance (a .balance .0) total (omega arith) h (p .bounds);
       serial = p .serial;
       one = o .1;
       two = omega arith;
@@ -72,7 +72,7 @@ pub charged-good : (a : Account) (total n cost : ℕ) → cost ≤ n * 99999999 
 charged-good a total n cost h e =
     let p = good-parts a total e in
     parts-good (charged a cost) (total + n)
-    (record { serial = p .serial; alarms = p .alarms; bounds = debit-in (a .balance .0) total n cost h (p .bounds) })
+    (record { serial = p .serial; alarms = p .alarms; bounds = debit-in highestBalance (a .balance .0) total n cost h (p .bounds) })
 
 -- the tests that an accepted recharge has passed
 pub record Vetted (a : Account) (amount serial : ℕ) : Type 0 where
@@ -98,7 +98,7 @@ vetted a amount serial e =
       high = leb-true serial 65535 (and-right (leb 1 serial) _ range);
       next = omega (arith, leb-true (a .serial) serial (need-first _ 17 _ e17), leb-true serial (a .serial + 1) (need-first _ 18 _ e18));
       some = leb-true 1 amount (need-first _ 19 _ e19);
-      takes = need-first (takes (a .balance) (price amount)) 20 Accepted e20;
+      takes = need-first (takes highestBalance (a .balance) (price amount)) 20 Accepted e20;
     }
 
 -- an accepted recharge keeps the bounds
@@ -108,7 +108,7 @@ recharged-good a total amount serial r e =
     let p = good-parts a total e in
     let v = vetted a amount serial r in
     parts-good (recharged a amount serial) total
-    (record { serial = v .high; alarms = p .alarms; bounds = credit-in (a .balance .0) total (inMillionths amount) (v .takes) (p .bounds) })
+    (record { serial = v .high; alarms = p .alarms; bounds = credit-in highestBalance (a .balance .0) total (inMillionths amount) (v .takes) (p .bounds) })
 
 -- the amount of an accepted recharge fits
 pub recharge-small : (a : Account) (total amount serial : ℕ) → accountGood a total ≡ true → total ≤ 99999999 → rechargeRefusal a amount serial ≡ Accepted

@@ -1,5 +1,5 @@
 -- The codes of a call: the rules give a list of numbers, and the answer holds an array of eight with a count.
-use mathlib.Core.Bool.{cond}
+use mathlib.Core.Bool.{Bool, cond}
 use mathlib.Core.List.{List, [], _∷_}
 use Prim.Native.Nat.{ℕ, _+_}
 use lib.Dec.{ltb}
@@ -17,6 +17,10 @@ noted k c = cond (ltb (k .count) 8) (record { count = k .count + 1; said = set (
 unfoldable pub noteAll : Codes → List ℕ → Codes
 noteAll k [] = k
 noteAll k (c ∷ cs) = noteAll (noted k c) cs
+
+-- a code where `given` holds
+abbrev pub codeIf : Bool → ℕ → List ℕ
+codeIf given code = cond given (code ∷ []) []
 
 -- the codes as a list
 abbrev pub told : Codes → List ℕ

@@ -1,6 +1,6 @@
 -- Document 01, "Pulses": "Codes, each on crossing from above, in this order: 2E balance at or below alarm 1; 2F at or below alarm 2,
 -- then an open valve closes (12); 30 at or below zero, then likewise; 33 below zero."
-use mathlib.Core.Bool.{Bool, true, false, cond, not, _&&_}
+use mathlib.Core.Bool.{Bool, true, false, not, _&&_}
 use mathlib.Core.List.{List, [], _∷_, _++_}
 use Prim.Native.Nat.{ℕ}
 use lib.IntN.{ℤ, pos}
@@ -9,7 +9,7 @@ use Rattle.units.specs.Money.{ofYuan}
 use Rattle.account.specs.declared.Account.{Account}
 use Rattle.account.specs.declared.Fall.{Fall}
 use Rattle.account.specs.declared.Codes.{Codes}
-use Rattle.account.specs.Codes.{noteAll}
+use Rattle.account.specs.Codes.{codeIf, noteAll}
 use Rattle.account.specs.Valve.{closing}
 
 -- a threshold: its code, whether an open valve closes on it, and which balances are at or below it
@@ -36,7 +36,7 @@ unfoldable pub valveAfter : Bool → Bool → Bool → Bool
 valveAfter opened hit closes = opened && not (hit && closes)
 
 unfoldable pub markCodes : Bool → Bool → ℕ → Bool → List ℕ
-markCodes opened hit code closes = cond hit (code ∷ cond (closes && opened) (closing ∷ []) []) []
+markCodes opened hit code closes = codeIf hit code ++ codeIf (hit && (closes && opened)) closing
 
 -- a balance that falls past the thresholds, in their order
 unfoldable pub fallValve : List Mark → ℤ → ℤ → Bool → Bool

@@ -1,8 +1,9 @@
 -- Document 01: the station mark, "allow" or "forbid", and the valve, open or closed.
-use mathlib.Core.Bool.{Bool, cond, not, _&&_}
-use mathlib.Core.List.{List, [], _∷_, _++_}
+use mathlib.Core.Bool.{Bool, true, false, not, _&&_}
+use mathlib.Core.List.{List, _∷_, _++_}
 use Prim.Native.Nat.{ℕ}
 use Rattle.account.specs.declared.Valve.{Valve}
+use Rattle.account.specs.Codes.{codeIf}
 
 -- "an open valve closes (12)"
 abbrev pub closing : ℕ
@@ -18,19 +19,22 @@ valveKept v still = record { allow = v .allow; opened = v .opened && still }
 -- "If a plan was in force on the old date and none is on the new, code 80 02 00 12; with none in force an open valve closes, code 12."
 unfoldable pub expiryCodes : Bool → Bool → Bool → List ℕ
 expiryCodes was is opened =
-    cond (was && not is) (0x80020012 ∷ []) [] ++ cond (opened && not is) (closing ∷ []) []
+    codeIf (was && not is) 0x80020012 ++ codeIf (opened && not is) closing
 
 -- "Station command: 0 sets mark "forbid", code 2B, an open valve closes (12); 1 sets "allow", code 2B."
 abbrev pub commanded : Valve → Bool → Valve
 commanded v allow = record { allow = allow; opened = v .opened && allow }
 
 unfoldable pub commandCodes : Valve → Bool → List ℕ
-commandCodes v allow = 0x2B ∷ cond (v .opened && not allow) (closing ∷ []) []
+commandCodes v allow = 0x2B ∷ codeIf (v .opened && not allow) closing
 
 -- "Key: a closed valve opens, code 11; an open one stays, no code."
 unfoldable pub keyCodes : Valve → List ℕ
-keyCodes v = cond (v .opened) [] (0x11 ∷ [])
+keyCodes v = codeIf (not (v .opened)) 0x11
 
--- of a fresh meter: mark "allow", valve closed
-unfoldable pub freshValve : Valve → Bool
-freshValve v = v .allow && not (v .opened)
+-- "Fresh: .. mark "allow", valve closed."
+abbrev pub freshValve : Valve
+freshValve = record { allow = true; opened = false }
+
+unfoldable pub isFreshValve : Valve → Bool
+isFreshValve v = v .allow && not (v .opened)

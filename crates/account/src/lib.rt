@@ -1,19 +1,17 @@
 // The account (balance, last serial, alarms), the valve with the station mark, and event codes.
+mod events; // events.rt: event codes
+mod thresholds; // thresholds.rt: the valve, and the thresholds that close it
+
 use answer::Answer;
 use units::Charge;
 use units::Hundredths;
 use units::Millionths;
 use units::TenThousandths;
 ghost use mathlib.Core.Path.{_≡_};
-ghost use mathlib.Core.Bool.{true, not, _&&_};
-ghost use Prim.Native.Nat.{_+_, _≤_, _<_, _^_};
-ghost use lib.IntN.{pos};
-ghost use lib.Signed.{leZ, ltZ};
+ghost use Prim.Native.Nat.{_≤_, _<_, _^_};
 ghost use Rattle.units.specs.Money.{Small};
-ghost use Rattle.account.specs.Codes.{noCodes, noted, noteAll};
-ghost use Rattle.account.specs.Valve.{valveSet, valveKept, expiryCodes, commanded, commandCodes, keyCodes, freshValve};
-ghost use Rattle.account.specs.Account.{rechargeRefusal, recharged, alarmsGood, alarmed, charged, accountGood, freshAccount};
-ghost use Rattle.account.specs.Fall.{struck, fallOf};
+ghost use Rattle.account.specs.Account.{freshAccount, isFreshAccount, rechargeRefusal, recharged, alarmsGood, alarmed, charged, accountGood};
+ghost use Rattle.account.specs.Fall.{fallOf};
 
 // The balance, the last accepted serial (0 before the first), and the two alarms in whole yuan.
 #[repr(C)]
@@ -44,179 +42,52 @@ pub struct Fall {
     pub codes: Codes,
 }
 
-impl Codes {
-    pub fn none() -> Codes
-        ensures { λ r. ⌜ r ≡ noCodes ⌝ }
-    {
-        let said = [0u32; 8];
-        Codes { count: 0, said }
-    }
-
-    // One code more. No call gives more than seven.
-    pub fn note(self, code: u32) -> Codes
-        ensures { λ r. ⌜ r ≡ noted self code ⌝ }
-    {
-        let n = self.count;
-        if n >= 8 {
-            return self;
-        }
-        let mut next = self;
-        next.said[n] = code;
-        next.count = n + 1;
-        next
-    }
-
-    // The codes of turning the day: whether a plan was in force, whether one is, and the valve.
-    pub fn expiry(was: bool, is: bool, opened: bool) -> Codes
-        ensures { λ r. ⌜ r ≡ noteAll noCodes (expiryCodes was is opened) ⌝ }
-    {
-        let none = Codes::none();
-        if is {
-            return none;
-        }
-        if was {
-            let k = none.note(0x80020012);
-            if opened {
-                return k.note(0x12);
-            }
-            return k;
-        }
-        if opened {
-            return none.note(0x12);
-        }
-        none
-    }
-}
-
-impl Valve {
-    // Mark "allow" and closed.
-    pub fn is_fresh(self) -> bool
-        ensures { λ r. ⌜ r ≡ freshValve self ⌝ }
-    {
-        self.allow && !self.opened
-    }
-
-    pub fn set(self, opened: bool) -> Valve
-        ensures { λ r. ⌜ r ≡ valveSet self opened ⌝ }
-    {
-        let mut next = self;
-        next.opened = opened;
-        next
-    }
-
-    // Open only where it was and `still` holds.
-    pub fn kept(self, still: bool) -> Valve
-        ensures { λ r. ⌜ r ≡ valveKept self still ⌝ }
-    {
-        if still {
-            return self;
-        }
-        self.set(false)
-    }
-
-    // The mark set by the station; "forbid" closes the valve.
-    pub fn commanded(self, allow: bool) -> Valve
-        ensures { λ r. ⌜ r ≡ commanded self allow ⌝ }
-    {
-        let mut next = self.kept(allow);
-        next.allow = allow;
-        next
-    }
-
-    pub fn command_codes(self, allow: bool, codes: Codes) -> Codes
-        ensures { λ r. ⌜ r ≡ noteAll codes (commandCodes self allow) ⌝ }
-    {
-        let k = codes.note(0x2B);
-        if allow {
-            return k;
-        }
-        if self.opened {
-            return k.note(0x12);
-        }
-        k
-    }
-
-    pub fn key_codes(self, codes: Codes) -> Codes
-        ensures { λ r. ⌜ r ≡ noteAll codes (keyCodes self) ⌝ }
-    {
-        if self.opened {
-            return codes;
-        }
-        codes.note(0x11)
-    }
-}
-
-// Whether a balance crosses a limit from above.
-fn crosses(was: Millionths, is: Millionths, limit: Charge) -> bool
-    requires { ⌜ limit .0 < 2 ^ 62 ⌝ }
-    ensures { λ r. ⌜ r ≡ (not (leZ (was .0) (pos (limit .0))) && leZ (is .0) (pos (limit .0))) ⌝ }
-{
-    if was.at_or_below(limit) {
-        return false;
-    }
-    is.at_or_below(limit)
-}
-
-// Whether a balance goes below zero.
-fn sinks(was: Millionths, is: Millionths) -> bool
-    ensures { λ r. ⌜ r ≡ (not (ltZ (was .0) (pos 0)) && ltZ (is .0) (pos 0)) ⌝ }
-{
-    if was.negative() {
-        return false;
-    }
-    is.negative()
-}
-
-impl Fall {
-    // One threshold.
-    fn strike(self, hit: bool, code: u32, closes: bool) -> Fall
-        ensures { λ r. ⌜ r ≡ struck self hit code closes ⌝ }
-    {
-        if !hit {
-            return self;
-        }
-        let said = self.codes.note(code);
-        if !closes {
-            return Fall {
-                opened: self.opened,
-                codes: said,
-            };
-        }
-        if !self.opened {
-            return Fall {
-                opened: false,
-                codes: said,
-            };
-        }
-        let shut = said.note(0x12);
-        Fall {
-            opened: false,
-            codes: shut,
-        }
-    }
-}
-
 // Refusal 23 unless this holds.
 pub fn alarms_good(one: u32, two: u32) -> bool
     ensures { λ r. ⌜ r ≡ alarmsGood one two ⌝ }
 {
-    0 < two && (two < one && one <= 999_999)
+    (0 < two) & ((two < one) & (one <= Account::MOST_ALARM))
 }
 
 impl Account {
-    // Balance 0, no serial yet, alarms 20 and 5 yuan.
+    // The alarms of a fresh meter and the highest, in whole yuan; the highest serial and the highest balance.
+    pub const ALARM_ONE: u32 = 20;
+
+    pub const ALARM_TWO: u32 = 5;
+
+    pub const MOST_ALARM: u32 = 999_999;
+
+    pub const MOST_SERIAL: u32 = 65_535;
+
+    pub const TOP: Charge = Millionths::TOP;
+
+    // Balance 0, no serial yet, the alarms of a fresh meter.
+    pub fn fresh() -> Account
+        ensures { λ r. ⌜ r ≡ freshAccount ⌝ }
+    {
+        Account {
+            balance: Millionths(0),
+            serial: 0,
+            one: Account::ALARM_ONE,
+            two: Account::ALARM_TWO,
+        }
+    }
+
     pub fn is_fresh(self) -> bool
-        ensures { λ r. ⌜ r ≡ freshAccount self ⌝ }
+        ensures { λ r. ⌜ r ≡ isFreshAccount self ⌝ }
     {
         self.balance.at_or_below(Charge(0))
-            && (!self.balance.negative() && (self.serial == 0 && (self.one == 20 && self.two == 5)))
+            & (!self.balance.negative()
+                & ((self.serial == 0)
+                    & ((self.one == Account::ALARM_ONE) & (self.two == Account::ALARM_TWO))))
     }
 
     // The bounds of an account that a host hands in.
     pub fn is_good(self, total: Hundredths) -> bool
         ensures { λ r. ⌜ r ≡ accountGood self (total .0) ⌝ }
     {
-        self.serial <= 65_535 && (alarms_good(self.one, self.two) && self.balance.in_bounds(total))
+        (self.serial <= Account::MOST_SERIAL)
+            & (alarms_good(self.one, self.two) & self.balance.in_bounds(Account::TOP, total))
     }
 
     // Refusals 15 to 20, in their order.
@@ -225,28 +96,31 @@ impl Account {
         requires { ⌜ self .serial ≤ 65535 ⌝ }
         ensures { λ r. ⌜ r ≡ rechargeRefusal self (amount .0) serial ⌝ }
     {
-        if serial < 1 {
-            return Answer::Refused(15);
-        }
-        if serial > 65_535 {
-            return Answer::Refused(15);
-        }
-        if serial == self.serial {
-            return Answer::Refused(16);
-        }
-        if serial < self.serial {
-            return Answer::Refused(17);
-        }
-        if serial > self.serial + 1 {
-            return Answer::Refused(18);
-        }
-        if amount.0 < 1 {
-            return Answer::Refused(19);
-        }
-        if self.balance.takes(amount) {
-            return Answer::Accepted;
-        }
-        Answer::Refused(20)
+        Answer::need(
+            (1 <= serial) & (serial <= Account::MOST_SERIAL),
+            15,
+            Answer::need(
+                serial != self.serial,
+                16,
+                Answer::need(
+                    self.serial <= serial,
+                    17,
+                    Answer::need(
+                        serial <= self.serial + 1,
+                        18,
+                        Answer::need(
+                            1 <= amount.0,
+                            19,
+                            Answer::need(
+                                self.balance.takes(Account::TOP, amount),
+                                20,
+                                Answer::Accepted,
+                            ),
+                        ),
+                    ),
+                ),
+            ),
+        )
     }
 
     pub fn recharged(self, amount: TenThousandths, serial: u32) -> Account
@@ -285,9 +159,15 @@ impl Account {
     {
         let was = self.balance;
         let mut f = Fall { opened, codes };
-        f = f.strike(crosses(was, is, Charge::yuan(self.one)), 0x2E, false);
-        f = f.strike(crosses(was, is, Charge::yuan(self.two)), 0x2F, true);
-        f = f.strike(crosses(was, is, Charge(0)), 0x30, true);
-        f.strike(sinks(was, is), 0x33, false)
+        let one = thresholds::crosses(was, is, Charge::yuan(self.one));
+        f = f.strike(one, Codes::AT_ALARM_ONE, false);
+        let two = thresholds::crosses(was, is, Charge::yuan(self.two));
+        f = f.strike(two, Codes::AT_ALARM_TWO, true);
+        f = f.strike(
+            thresholds::crosses(was, is, Charge(0)),
+            Codes::AT_ZERO,
+            true,
+        );
+        f.strike(thresholds::sinks(was, is), Codes::IN_DEBT, false)
     }
 }

@@ -1,4 +1,4 @@
--- The valve is kept open by the new mark alone, and the mark is set.
+-- The mark is set, and the valve stays open where it was and the mark allows.
 use borrow.Author.Needs.{needs}
 use Rattle.account.proofs.Valve.commanded.Statement.{statement}
 use Rattle.account.proofs.Valve.commanded.Tie as tie
