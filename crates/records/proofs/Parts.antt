@@ -21,11 +21,11 @@ pub record Within (total volume charge : ℕ) : Type 0 where
   pub charges : charge ≤ mostOf total
 
 -- the held records within the bounds
-pub record AllGood (total : ℕ) (h : Held) : Type 0 where
+pub record AllGood (top total : ℕ) (h : Held) : Type 0 where
   pub dayFew : length (h .days) ≤ 62
   pub monthFew : length (h .months) ≤ 120
-  pub days : recordsGood total (h .days) ≡ true
-  pub months : recordsGood total (h .months) ≡ true
+  pub days : recordsGood top total (h .days) ≡ true
+  pub months : recordsGood top total (h .months) ≡ true
 
 module _ (total : ℕ) where
   -- a good tally is within the bounds, and the other way round
@@ -47,33 +47,34 @@ module _ (total : ℕ) where
   unfolding periodsGood
   are-periods p h k = rw h k
 
+module _ (top total : ℕ) where
   -- a good record likewise, with its closing balance
   pub record-is : (r : Record)
-      → recordGood total r ≡ true
-      → Within total (r .volume .0) (r .charge .0) × (inBounds (r .closing .0) total ≡ true)
+      → recordGood top total r ≡ true
+      → Within total (r .volume .0) (r .charge .0) × (inBounds top (r .closing .0) total ≡ true)
   unfolding recordGood
   record-is r h =
-      let a = both (leb (r .volume .0) total) (leb (r .charge .0) (mostOf total) && inBounds (r .closing .0) total) h in
-      let b = both (leb (r .charge .0) (mostOf total)) (inBounds (r .closing .0) total) (a .1) in
+      let a = both (leb (r .volume .0) total) (leb (r .charge .0) (mostOf total) && inBounds top (r .closing .0) total) h in
+      let b = both (leb (r .charge .0) (mostOf total)) (inBounds top (r .closing .0) total) (a .1) in
       (record { volumes = leb-true _ _ (a .0); charges = leb-true _ _ (b .0) }, b .1)
 
   pub is-record : (r : Record)
       → Within total (r .volume .0) (r .charge .0)
-      → inBounds (r .closing .0) total ≡ true
-      → recordGood total r ≡ true
+      → inBounds top (r .closing .0) total ≡ true
+      → recordGood top total r ≡ true
   unfolding recordGood
   is-record r w b = rw (le-leb _ _ (w .volumes), le-leb _ _ (w .charges)) b
 
-  pub held-are : (h : Held) → heldGood total h ≡ true → AllGood total h
+  pub held-are : (h : Held) → heldGood top total h ≡ true → AllGood top total h
   unfolding heldGood
   held-are h g =
-      let ds = recordsGood total (h .days) in
-      let ms = recordsGood total (h .months) in
+      let ds = recordsGood top total (h .days) in
+      let ms = recordsGood top total (h .months) in
       let a = both (leb (length (h .days)) 62) (leb (length (h .months)) 120 && (ds && ms)) g in
       let b = both (leb (length (h .months)) 120) (ds && ms) (a .1) in
       let c = both ds ms (b .1) in
       record { dayFew = leb-true _ _ (a .0); monthFew = leb-true _ _ (b .0); days = c .0; months = c .1 }
 
-  pub are-held : (h : Held) → AllGood total h → heldGood total h ≡ true
+  pub are-held : (h : Held) → AllGood top total h → heldGood top total h ≡ true
   unfolding heldGood
   are-held h g = rw (le-leb _ _ (g .dayFew), le-leb _ _ (g .monthFew), g .days) (g .months)

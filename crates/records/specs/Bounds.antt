@@ -12,12 +12,13 @@ use Rattle.records.specs.declared.Tally.{Tally}
 use Rattle.records.specs.declared.Periods.{Periods}
 use Rattle.records.specs.Records.{Held, dayLimit, monthLimit}
 
-unfoldable pub recordGood : ℕ → Record → Bool
-recordGood total r = leb (r .volume .0) total && (chargeInBounds (r .charge .0) total && inBounds (r .closing .0) total)
+-- a record, with the highest balance as `top`
+unfoldable pub recordGood : ℕ → ℕ → Record → Bool
+recordGood top total r = leb (r .volume .0) total && (chargeInBounds (r .charge .0) total && inBounds top (r .closing .0) total)
 
-unfoldable pub recordsGood : ℕ → List Record → Bool
-recordsGood total [] = true
-recordsGood total (r ∷ rs) = recordGood total r && recordsGood total rs
+unfoldable pub recordsGood : ℕ → ℕ → List Record → Bool
+recordsGood top total [] = true
+recordsGood top total (r ∷ rs) = recordGood top total r && recordsGood top total rs
 
 unfoldable pub tallyGood : ℕ → Tally → Bool
 tallyGood total t = leb (t .volume .0) total && chargeInBounds (t .charge .0) total
@@ -25,17 +26,17 @@ tallyGood total t = leb (t .volume .0) total && chargeInBounds (t .charge .0) to
 unfoldable pub periodsGood : ℕ → Periods → Bool
 periodsGood total p = tallyGood total (p .day) && tallyGood total (p .month)
 
-unfoldable pub heldGood : ℕ → Held → Bool
-heldGood total h =
+unfoldable pub heldGood : ℕ → ℕ → Held → Bool
+heldGood top total h =
     leb (length (h .days)) dayLimit
-    && (leb (length (h .months)) monthLimit && (recordsGood total (h .days) && recordsGood total (h .months)))
+    && (leb (length (h .months)) monthLimit && (recordsGood top total (h .days) && recordsGood top total (h .months)))
 
 -- of a fresh meter: nothing in the open day and month, no record held
-abbrev pub freshTally : Tally → Bool
-freshTally t = eqb (t .volume .0) 0 && eqb (t .charge .0) 0
+abbrev pub isFreshTally : Tally → Bool
+isFreshTally t = eqb (t .volume .0) 0 && eqb (t .charge .0) 0
 
-unfoldable pub freshPeriods : Periods → Bool
-freshPeriods p = freshTally (p .day) && freshTally (p .month)
+unfoldable pub isFreshPeriods : Periods → Bool
+isFreshPeriods p = isFreshTally (p .day) && isFreshTally (p .month)
 
-unfoldable pub freshHeld : Held → Bool
-freshHeld h = eqb (length (h .days)) 0 && eqb (length (h .months)) 0
+unfoldable pub isFreshHeld : Held → Bool
+isFreshHeld h = eqb (length (h .days)) 0 && eqb (length (h .months)) 0

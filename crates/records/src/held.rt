@@ -10,10 +10,10 @@ use units::Charge;
 use units::Hundredths;
 use units::Millionths;
 ghost use mathlib.Core.Path.{_≡_};
-ghost use Prim.Native.Nat.{_+_, _-_, _*_, _≤_, _<_, min};
+ghost use Prim.Native.Nat.{_+_, _-_, _*_, _^_, _≤_, _<_, min};
 ghost use lib.ListN.{length, getD};
 ghost use Rattle.units.specs.Money.{money};
-ghost use Rattle.records.specs.Bounds.{recordsGood, heldGood, freshHeld};
+ghost use Rattle.records.specs.Bounds.{recordsGood, heldGood, isFreshHeld};
 ghost use Rattle.records.specs.Queries.{fetched, HeavyDay};
 ghost use Rattle.records.specs.Turn.{opened};
 ghost use Rattle.records.specs.Words.{balanceOf, balanceWord, recordFrom, recordAt, dateWord, rows, heldFrom, heldOf, noWords};
@@ -25,11 +25,11 @@ pub type Words = [u64; 548];
 // Where the counts stand, and how many records are held at most.
 const DAYS: usize = 0;
 
-const DAY_LIMIT: usize = 62;
+pub const DAY_LIMIT: usize = 62;
 
 const MONTHS: usize = 187;
 
-const MONTH_LIMIT: usize = 120;
+pub const MONTH_LIMIT: usize = 120;
 
 const LEAST: i64 = -9_223_372_036_854_775_808;
 
@@ -86,13 +86,14 @@ fn record_at(h: &Words, i: usize) -> Record
 }
 
 // Whether the first n records behind the count at `from` keep the bounds.
-fn rows_good(h: &Words, from: usize, n: usize, total: Hundredths) -> bool
+fn rows_good(h: &Words, from: usize, n: usize, top: Charge, total: Hundredths) -> bool
     requires { ⌜ from + 3 * n < 548 ⌝ }
-    ensures { λ r. ⌜ r ≡ recordsGood (total .0) (rows (now (h .entry)) (from + 1) n) ⌝ }
+    requires { ⌜ top .0 < 2 ^ 54 ⌝ }
+    ensures { λ r. ⌜ r ≡ recordsGood (top .0) (total .0) (rows (now (h .entry)) (from + 1) n) ⌝ }
 {
     let mut i = 0usize;
     while i < n {
-        if !record_at(h, from + 3 * i + 1).is_good(total) {
+        if !record_at(h, from + 3 * i + 1).is_good(top, total) {
             return false;
         }
         i += 1;
@@ -100,26 +101,28 @@ fn rows_good(h: &Words, from: usize, n: usize, total: Hundredths) -> bool
     true
 }
 
-// Whether the held records keep the bounds.
-pub fn is_good(h: &Words, total: Hundredths) -> bool
-    ensures { λ r. ⌜ r ≡ heldGood (total .0) (heldOf (now (h .entry))) ⌝ }
+// Whether the held records keep the bounds, closing balances at most `top`.
+pub fn is_good(h: &Words, top: Charge, total: Hundredths) -> bool
+    requires { ⌜ top .0 < 2 ^ 54 ⌝ }
+    ensures { λ r. ⌜ r ≡ heldGood (top .0) (total .0) (heldOf (now (h .entry))) ⌝ }
 {
     let days = h[DAYS];
-    if days > 62 {
+    if days > DAY_LIMIT as u64 {
         return false;
     }
     let months = h[MONTHS];
-    if months > 120 {
+    if months > MONTH_LIMIT as u64 {
         return false;
     }
-    rows_good(h, DAYS, days as usize, total) && rows_good(h, MONTHS, months as usize, total)
+    rows_good(h, DAYS, days as usize, top, total)
+        & rows_good(h, MONTHS, months as usize, top, total)
 }
 
 // Whether no record is held.
 pub fn is_fresh(h: &Words) -> bool
-    ensures { λ r. ⌜ r ≡ freshHeld (heldOf (now (h .entry))) ⌝ }
+    ensures { λ r. ⌜ r ≡ isFreshHeld (heldOf (now (h .entry))) ⌝ }
 {
-    h[DAYS] == 0 && h[MONTHS] == 0
+    (h[DAYS] == 0) & (h[MONTHS] == 0)
 }
 
 // An array's length is known of one by value alone. The calls compile to nothing, the copy included.

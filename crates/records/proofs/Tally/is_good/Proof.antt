@@ -1,4 +1,4 @@
--- The two tests stand in the order of the definition.
+-- Each test of the definition is made, in its order.
 use borrow.Author.Needs.{needs}
 use Rattle.records.specs.Bounds.{tallyGood}
 use Rattle.records.proofs.Tally.is_good.Statement.{statement}
@@ -6,11 +6,7 @@ use Rattle.records.proofs.Tally.is_good.Tie as tie
 
 returns : tie.Need-returns
 unfolding tallyGood
-returns c = rw (← c .before .before .at-most .ensures, c .before .if1 .taken, c .in-bounds .ensures)
-
-returns-2 : tie.Need-returns-2
-unfolding tallyGood
-returns-2 c = rw (← c .before .at-most .ensures, c .if1 .left)
+returns c = rw (c .in-bounds .ensures, c .before .at-most .ensures)
 
 pub is-good-spec : {M : Type 1} → statement M
-is-good-spec = tie.close (tie.spec (search needs) (search needs) returns returns-2)
+is-good-spec = tie.close (tie.spec (search needs) (search needs) returns)

@@ -18,29 +18,17 @@ returns-2 c = rw (held-long 0, held-long 187, le-leb _ _ (c .before .before .if1
 returns-3 : tie.Need-returns-3
 unfolding heldGood heldFrom
 returns-3 c =
+    let m = c .before .before in
     rw (
       held-long 0,
       held-long 187,
-      le-leb _ _ (c .before .before .before .before .before .if1 .left),
-      le-leb _ _ (c .before .before .before .if2 .left),
-      ← c .before .before .rows-good .ensures,
-      c .before .if3 .taken,
+      le-leb _ _ (m .before .before .if1 .left),
+      le-leb _ _ (m .if2 .left),
       c .rows-good2 .ensures,
-    )
-
-returns-4 : tie.Need-returns-4
-unfolding heldGood heldFrom
-returns-4 c =
-    rw (
-      held-long 0,
-      held-long 187,
-      le-leb _ _ (c .before .before .before .before .if1 .left),
-      le-leb _ _ (c .before .before .if2 .left),
-      ← c .before .rows-good .ensures,
-      c .if3 .left,
+      c .before .rows-good .ensures,
     )
 
 pub is-good-spec : {M : Type 1} → statement M
 is-good-spec =
     tie.close
-    (tie.spec (search needs) returns (search needs) returns-2 (search needs) (search needs) returns-3 returns-4)
+    (tie.spec (search needs) returns (search needs) returns-2 (search needs) (search needs) returns-3)

@@ -11,14 +11,14 @@ use Rattle.records.proofs.held.rows_good.Statement.{statement}
 use Rattle.records.proofs.held.rows_good.Tie as tie
 
 abbrev Inv-loop : tie.InvT-loop
-Inv-loop h from n total i₀ i =
-    (i ≤ n) × (recordsGood (total .0) (rows h (from + 1) n) ≡ recordsGood (total .0) (rows h (from + 3 * i + 1) (n - i)))
+Inv-loop h from n top total i₀ i =
+    (i ≤ n) × (recordsGood (top .0) (total .0) (rows h (from + 1) n) ≡ recordsGood (top .0) (total .0) (rows h (from + 3 * i + 1) (n - i)))
 
 abbrev μ-loop : tie.MeasureT-loop
-μ-loop h from n total i₀ i = n - i
+μ-loop h from n top total i₀ i = n - i
 
 loop-holds : tie.Need-loop-holds Inv-loop μ-loop
-loop-holds c = (omega arith, ap (recordsGood (c .args .total .0)) (rows-all _ _ _))
+loop-holds c = (omega arith, ap (recordsGood (c .args .top .0) (c .args .total .0)) (rows-all _ _ _))
 
 returns : tie.Need-returns Inv-loop μ-loop
 unfolding recordsGood
