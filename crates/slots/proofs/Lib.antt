@@ -1,4 +1,2 @@
-pub mod Answers
-pub mod Bounds
 pub mod InForce
 pub mod Real

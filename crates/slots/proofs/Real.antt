@@ -11,12 +11,14 @@ use Rattle.record.proofs.Accepted.{read-good}
 pub real-laws : Laws real
 unfolding isDate
 real-laws = record {
-  charge-zero = charge-zero;
-  charge-rises = charge-rises;
+  billing = record {
+    charge-zero = charge-zero;
+    charge-rises = charge-rises;
+    convex = convex;
+    cycle-rises = cycle-rises;
+    no-meet = no-meet;
+  };
   charge-cap = charge-cap;
-  convex = convex;
-  cycle-rises = cycle-rises;
-  no-meet = no-meet;
   meet-later = meet-later;
   meet-swap = λ p q d h. meet-sym q p d ∙ h;
   no-date = refl;

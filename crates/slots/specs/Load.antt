@@ -11,12 +11,9 @@ use Rattle.record.specs.declared.Reading.{Reading}
 use Rattle.slots.specs.declared.Slot.{Slot}
 use Rattle.slots.specs.declared.Slots.{Slots}
 use Rattle.slots.specs.World.{World}
-use Rattle.slots.specs.Slots.{inSlot}
+use Rattle.slots.specs.Slots.{slotAt, inSlot}
 
--- slot k and the other one; slot 1 is the first
-abbrev pub slotAt : Slots → ℕ → Slot
-slotAt s k = cond (eqb k 1) (s .one) (s .two)
-
+-- the slot that is not slot k
 abbrev pub otherAt : Slots → ℕ → Slot
 otherAt s k = cond (eqb k 1) (s .two) (s .one)
 
