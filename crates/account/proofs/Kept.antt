@@ -4,18 +4,18 @@ use mathlib.Core.Path.{_≡_}
 use mathlib.Core.Bool.{true, not, _&&_}
 use Prim.Native.Nat.{ℕ, _+_, _*_, _^_, _≤_, _<_}
 use native.Mathlib.Omega.{arith}
-use borrow.Author.Tests.{leb-true, ltb-true, le-leb, eqb-false, not-true}
+use borrow.Author.Tests.{leb-true, ltb-true, le-leb, eqb-true, eqb-false, not-true}
 use lib.Dec.{leb, ltb, eqb}
 use lib.IntN.{pos, _+ℤ_}
 use lib.Signed.{leZ}
 use Rattle.units.specs.Volume.{price}
 use Rattle.units.specs.Money.{Small, inBounds, inMillionths, takes, highestBalance}
-use Rattle.units.proofs.Integers.{plus, le-true, small-dn}
-use Rattle.units.proofs.Balance.{in-small, debit-in, credit-in}
+use Rattle.units.proofs.Integers.{plus, le-true, lt-false, small-dn}
+use Rattle.units.proofs.Balance.{are-bounds, in-small, debit-in, credit-in}
 use Rattle.answer.specs.declared.Answer.the-variants.{Accepted}
-use Rattle.answer.proofs.Tests.{and-left, and-right, need-first, need-rest}
+use Rattle.answer.proofs.Tests.{split, need-both}
 use Rattle.account.specs.declared.Account.{Account}
-use Rattle.account.specs.Account.{rechargeRefusal, recharged, alarmsGood, alarmed, charged, accountGood}
+use Rattle.account.specs.Account.{highestAlarm, rechargeRefusal, recharged, alarmsGood, alarmed, charged, accountGood, isFreshAccount}
 
 -- the bounds in parts, both ways
 record Parts (a : Account) (total : ℕ) : Type 0 where
@@ -26,12 +26,9 @@ record Parts (a : Account) (total : ℕ) : Type 0 where
 good-parts : (a : Account) (total : ℕ) → accountGood a total ≡ true → Parts a total
 unfolding accountGood
 good-parts a total e =
-    let rest = and-right (leb (a .serial) 65535) _ e in
-    record {
-      serial = leb-true (a .serial) 65535 (and-left (leb (a .serial) 65535) _ e);
-      alarms = and-left (alarmsGood (a .one) (a .two)) _ rest;
-      bounds = and-right (alarmsGood (a .one) (a .two)) _ rest;
-    }
+    let s = split e in
+    let r = split (s .1) in
+    record { serial = leb-true _ _ (s .0); alarms = r .0; bounds = r .1 }
 
 parts-good : (a : Account) (total : ℕ) → Parts a total → accountGood a total ≡ true
 unfolding accountGood
@@ -40,9 +37,7 @@ parts-good a total p = rw (le-leb (a .serial) 65535 (p .serial), p .alarms) (p .
 -- the alarms in order, and at most 999,999
 pub alarms-order : (one two : ℕ) → alarmsGood one two ≡ true → (two < one) × (one ≤ 999999)
 unfolding alarmsGood
-alarms-order one two e =
-    let rest = and-right (ltb 0 two) _ e in
-    (ltb-true two one (and-left (ltb two one) _ rest), leb-true one 999999 (and-right (ltb two one) _ rest))
+alarms-order one two e = let o = split (split {a = ltb 0 two} e .1) in (ltb-true two one (o .0), leb-true one highestAlarm (o .1))
 
 -- what the bounds of an account tell a caller
 pub record Room (a : Account) (total : ℕ) : Type 0 where
@@ -86,19 +81,19 @@ pub record Vetted (a : Account) (amount serial : ℕ) : Type 0 where
 pub vetted : (a : Account) (amount serial : ℕ) → rechargeRefusal a amount serial ≡ Accepted → Vetted a amount serial
 unfolding rechargeRefusal
 vetted a amount serial e =
-    let range = need-first (leb 1 serial && leb serial 65535) 15 _ e in
-    let e16 = need-rest (leb 1 serial && leb serial 65535) 15 _ e in
-    let e17 = need-rest (not (eqb serial (a .serial))) 16 _ e16 in
-    let e18 = need-rest (leb (a .serial) serial) 17 _ e17 in
-    let e19 = need-rest (leb serial (a .serial + 1)) 18 _ e18 in
-    let e20 = need-rest (leb 1 amount) 19 _ e19 in
-    let other : serial ≡ a .serial → ⊥ = eqb-false serial (a .serial) (not-true (eqb serial (a .serial)) (need-first _ 16 _ e16)) in
+    let v15 = need-both 15 e in
+    let v16 = need-both 16 (v15 .1) in
+    let v17 = need-both 17 (v16 .1) in
+    let v18 = need-both 18 (v17 .1) in
+    let v19 = need-both 19 (v18 .1) in
+    let range = split (v15 .0) in
+    let other : serial ≡ a .serial → ⊥ = eqb-false _ _ (not-true (eqb serial (a .serial)) (v16 .0)) in
     record {
-      low = leb-true 1 serial (and-left (leb 1 serial) _ range);
-      high = leb-true serial 65535 (and-right (leb 1 serial) _ range);
-      next = omega (arith, leb-true (a .serial) serial (need-first _ 17 _ e17), leb-true serial (a .serial + 1) (need-first _ 18 _ e18));
-      some = leb-true 1 amount (need-first _ 19 _ e19);
-      takes = need-first (takes highestBalance (a .balance) (price amount)) 20 Accepted e20;
+      low = leb-true _ _ (range .0);
+      high = leb-true _ _ (range .1);
+      next = omega (arith, leb-true (a .serial) serial (v17 .0), leb-true serial (a .serial + 1) (v18 .0));
+      some = leb-true _ _ (v19 .0);
+      takes = need-both 20 (v19 .1) .0;
     }
 
 -- an accepted recharge keeps the bounds
@@ -125,3 +120,21 @@ pub alarmed-good : (a : Account) (total one two : ℕ) → alarmsGood one two �
 alarmed-good a total one two g e =
     let p = good-parts a total e in
     parts-good (alarmed a one two) total (record { serial = p .serial; alarms = g; bounds = p .bounds })
+
+-- a fresh account is within its bounds
+pub fresh-account : (a : Account) (total : ℕ) → isFreshAccount a ≡ true → accountGood a total ≡ true
+unfolding isFreshAccount alarmsGood
+fresh-account a total h =
+    let z = a .balance .0 in
+    let low = split h in
+    let high = split (low .1) in
+    let s = split (high .1) in
+    let o = split (s .1) in
+    let e : a .serial ≡ 0 = eqb-true _ _ (s .0) in
+    let p = le-true z (pos 0) (low .0) in
+    let q = lt-false z (pos 0) (not-true _ (high .0)) in
+    parts-good a total (record {
+      serial = omega arith;
+      alarms = rw (eqb-true (a .one) 20 (o .0), eqb-true (a .two) 5 (o .1));
+      bounds = are-bounds highestBalance z total (omega arith) (omega arith);
+    })

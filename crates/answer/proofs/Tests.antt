@@ -21,6 +21,10 @@ pub and-right : (a b : Bool) → (a && b) ≡ true → b ≡ true
 and-right true b e = e
 and-right false b e = absurd (true≢false (sym e))
 
+pub split : {a b : Bool} → (a && b) ≡ true → (a ≡ true) × (b ≡ true)
+split {a = true} {b = b} e = (refl, e)
+split {a = false} {b = b} e = (e, absurd (true≢false (sym e)))
+
 pub both : (a b : Bool) → a ≡ true → b ≡ true → (a && b) ≡ true
 both a b h i = rw (h, i)
 
@@ -56,6 +60,9 @@ pub need-rest : (b : Bool) (n : ℕ) (a : Answer) → need b n a ≡ Accepted �
 need-rest true n a h = h
 need-rest false n a h = cc
 
+pub need-both : {b : Bool} (n : ℕ) {a : Answer} → need b n a ≡ Accepted → (b ≡ true) × (a ≡ Accepted)
+need-both {b} n {a} h = (need-first b n a h, need-rest b n a h)
+
 pub need-all : (b : Bool) (n : ℕ) (a : Answer) → b ≡ true → a ≡ Accepted → need b n a ≡ Accepted
 need-all b n a h i = rw (h, i)
 
@@ -66,6 +73,9 @@ next-first (Refused n) b h = h
 pub next-rest : (a b : Answer) → next a b ≡ Accepted → b ≡ Accepted
 next-rest Accepted b h = h
 next-rest (Refused n) b h = cc
+
+pub next-both : {a b : Answer} → next a b ≡ Accepted → (a ≡ Accepted) × (b ≡ Accepted)
+next-both {a} {b} h = (next-first a b h, next-rest a b h)
 
 pub next-all : (a b : Answer) → a ≡ Accepted → b ≡ Accepted → next a b ≡ Accepted
 next-all a b h i = rw (h, i)

@@ -5,8 +5,7 @@ use Prim.Native.Nat.{ℕ}
 use native.Mathlib.Omega.{arith}
 use Rattle.answer.specs.declared.Answer.{Answer}
 use Rattle.answer.specs.declared.Answer.the-variants.{Accepted, Refused}
-use Rattle.answer.specs.Answer.{need}
-use Rattle.answer.proofs.Tests.{need-first, need-rest}
+use Rattle.answer.proofs.Tests.{split, need-both}
 use Rattle.calendar.specs.declared.Stamp.{Stamp}
 use Rattle.calendar.specs.declared.Dated.the-variants.{On, Refused as Off}
 use Rattle.calendar.specs.Stamp.{isStamp, dated, notBefore}
@@ -23,10 +22,13 @@ pub stamp-passed :
     (bounded w m ≡ true) × (stampGood w s ≡ true) × (notBefore (m .clock) s ≡ true)
 unfolding stampRefusal
 stamp-passed w m s h =
-    let c9 = need (notBefore (m .clock) s) 9 Accepted in
-    let c8 = need (stampGood w s) 8 c9 in
-    let b : c8 ≡ Accepted = need-rest (bounded w m) 0 c8 h in
-    (need-first (bounded w m) 0 c8 h, need-first (stampGood w s) 8 c9 b, need-first (notBefore (m .clock) s) 9 Accepted (need-rest (stampGood w s) 8 c9 b))
+    let a = need-both 0 h in
+    let b = need-both 8 (a .1) in
+    (a .0, b .0, need-both 9 {a = Accepted} (b .1) .0)
+
+pub stamp-date : (w : World) (s : Stamp) → stampGood w s ≡ true → w .date (s .date) ≡ true
+unfolding stampGood
+stamp-date w s h = split h .0
 
 -- an admitted stamp
 pub record Admitted (m : State) (s : Stamp) (d : ℕ) : Type 0 where

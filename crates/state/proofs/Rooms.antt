@@ -1,15 +1,13 @@
 -- What the bounds of a meter leave for the leaves of a call, before and after the day is turned.
 use mathlib.Core.Path.{_≡_, refl, ap, _∙_}
-use mathlib.Core.Bool.{true, false, not, _&&_, _||_}
+use mathlib.Core.Bool.{true, false, _||_}
 use mathlib.Core.List.{List, []}
 use Prim.Native.Nat.{ℕ, _+_, _*_, _^_, _≤_, _<_}
 use native.Mathlib.Omega.{arith}
 use lib.Dec.{leb, ltb, eqb}
-use Rattle.units.specs.Money.{Small}
-use Rattle.units.specs.Volume.{highestTotal}
+use Rattle.units.specs.Money.{Small, highestBalance}
 use Rattle.answer.specs.declared.Answer.the-variants.{Accepted}
-use Rattle.answer.specs.Answer.{need}
-use Rattle.answer.proofs.Tests.{cases, never, and-left, and-right, not-true, need-first, need-rest}
+use Rattle.answer.proofs.Tests.{cases, never, split, need-both}
 use borrow.Author.Tests.{le-ltb, leb-true, eq-eqb, ne-eqb, eqb-false}
 use Rattle.calendar.specs.declared.Stamp.{Stamp}
 use Rattle.calendar.specs.Date.{isDate}
@@ -17,84 +15,56 @@ use Rattle.calendar.proofs.Stamps.{not-before-date}
 use Rattle.account.specs.Account.{rechargeRefusal}
 use Rattle.account.proofs.Kept.{account-room, recharge-small}
 use Rattle.records.proofs.Room.{room}
-use Rattle.slots.specs.declared.Slot.{Slot}
 use Rattle.slots.specs.World.{real}
-use Rattle.slots.specs.Slots.{inSlot, someForce, slotOn, forceOn, fee, slotsTurned}
-use Rattle.slots.specs.Bounds.{slotGood, apart, freshSlots}
+use Rattle.slots.specs.Slots.{someForce, slotOn, forceOn, fee, slotsTurned}
+use Rattle.slots.specs.Bounds.{slotGood, apart}
+use Rattle.slots.proofs.Kept.{slots-in, no-force, fee-cap}
 use Rattle.slots.proofs.Real.{real-laws}
 use Rattle.records.specs.Records.{noneHeld}
-use Rattle.records.specs.Bounds.{freshHeld}
+use Rattle.records.specs.Bounds.{isFreshHeld}
 use Rattle.records.proofs.Kept.{fresh-held}
 use Rattle.state.specs.declared.Registers.{Registers}
 use Rattle.state.specs.State.{State, stateWith, stateOf, alone, registersOf, withClock}
 use Rattle.state.specs.Bounds.{stampGood, noClock, isFresh, stateGood, bounded}
-use Rattle.account.specs.Account.{freshAccount}
 use Rattle.state.specs.Turn.{turn, turnedTo, turnCodes, turnWords}
 use Rattle.state.specs.Pulsed.{pulsed, pulseCodes}
-use Rattle.state.specs.Refusals.{stampRefusal, pulseRefusal}
-use Rattle.state.proofs.Parts.{Parts, state-in, state-out, bounded-state}
-use Rattle.state.proofs.Turned.{slots-in, total-in, total-low, turn-state, turn-volumes}
-use Rattle.state.proofs.Pulses.{fee-cap}
+use Rattle.state.specs.Refusals.{stampRefusal, mostPulses, pulseRefusal}
+use Rattle.state.proofs.Parts.{Parts, total-in, total-low, state-in, state-out, fresh-parts, bounded-state}
+use Rattle.state.proofs.Turned.{turn-state, turn-volumes}
 use Rattle.state.proofs.Admitted.{stamp-passed}
 
 -- the bounds in parts
-pub state : (m : State) → bounded real m ≡ true → Parts real real-laws m
-state m h = bounded-state real real-laws m h
+pub state : (m : State) → bounded real m ≡ true → Parts real m
+state m h = bounded-state real m h
 
-pub turned-state : (m : State) (s : Stamp) → stampRefusal real m s ≡ Accepted → Parts real real-laws (turn real m s)
+pub turned-state : (m : State) (s : Stamp) → stampRefusal real m s ≡ Accepted → Parts real (turn real m s)
 turned-state m s h =
     let a = stamp-passed real m s h in
     turn-state real real-laws m s (not-before-date (m .clock) s (a .2)) (state m (a .0))
 
 -- the slots of a meter within its bounds
-pub slot-one : (m : State) → Parts real real-laws m → slotGood real (m .slots .one) ≡ true
-slot-one m s = slots-in real real-laws (m .slots) (m .clock .date) (m .volumes .total .0) (s .slots) .one
+pub slot-one : (m : State) → Parts real m → slotGood real (m .slots .one) ≡ true
+slot-one m s = slots-in real (m .slots) (m .clock .date) (m .volumes .total .0) (s .slots) .one
 
-pub slot-two : (m : State) → Parts real real-laws m → slotGood real (m .slots .two) ≡ true
-slot-two m s = slots-in real real-laws (m .slots) (m .clock .date) (m .volumes .total .0) (s .slots) .two
+pub slot-two : (m : State) → Parts real m → slotGood real (m .slots .two) ≡ true
+slot-two m s = slots-in real (m .slots) (m .clock .date) (m .volumes .total .0) (s .slots) .two
 
-pub slots-apart : (m : State) → Parts real real-laws m → apart real (m .slots .one) (m .slots .two) (m .clock .date) ≡ true
-slots-apart m s = slots-in real real-laws (m .slots) (m .clock .date) (m .volumes .total .0) (s .slots) .apart
+pub slots-apart : (m : State) → Parts real m → apart real (m .slots .one) (m .slots .two) (m .clock .date) ≡ true
+slots-apart m s = slots-in real (m .slots) (m .clock .date) (m .volumes .total .0) (s .slots) .apart
 
 -- a plan in force on the clock's date: the clock has a date
-no-slot : (s : Slot) (d : ℕ) → s .loaded ≡ false → inSlot real s d ≡ false
-unfolding inSlot
-no-slot s d h = rw h
-
-fresh-slots : (m : State) → isFresh m ≡ true → freshSlots (m .slots) ≡ true
-unfolding isFresh
-fresh-slots m h =
-    and-left (freshSlots (m .slots)) _ (and-right (freshAccount (m .account)) _ (and-right (eqb (m .clock .second) 0) _ h))
-
-fresh-unloaded : (m : State) → isFresh m ≡ true → (m .slots .one .loaded ≡ false) × (m .slots .two .loaded ≡ false)
-unfolding freshSlots
-fresh-unloaded m h =
-    let s = m .slots in
-    let k = fresh-slots m h in
-    let e1 = not (s .two .loaded) && eqb (s .usage .0) 0 in
-    let h1 : e1 ≡ true = and-right (not (s .one .loaded)) e1 k in
-    (not-true (s .one .loaded) (and-left (not (s .one .loaded)) e1 k), not-true (s .two .loaded) (and-left (not (s .two .loaded)) (eqb (s .usage .0) 0) h1))
-
 pub clocked : (m : State) → bounded real m ≡ true → noClock m ≡ false → isDate (m .clock .date) ≡ true
 unfolding bounded stampGood
-clocked m h q =
-    let k : ((isDate (m .clock .date) && leb (m .clock .second) 86399) && stateGood real m) ≡ true = rw q at h in
-    and-left (isDate (m .clock .date)) _ (and-left (isDate (m .clock .date) && leb (m .clock .second) 86399) _ k)
+clocked m h q = split (split (rw q at h) .0) .0
 
 unclocked : (m : State) → bounded real m ≡ true → noClock m ≡ true → isFresh m ≡ true
 unfolding bounded
 unclocked m h q = rw q at h
 
 pub date-some : (m : State) → bounded real m ≡ true → someForce real (m .slots) (m .clock .date) ≡ true → isDate (m .clock .date) ≡ true
-unfolding someForce
-date-some m h i = cases (noClock m) (λ q. absurd (never i (none (fresh-unloaded m (unclocked m h q))))) (λ q. clocked m h q)
-  where
-    none : (m .slots .one .loaded ≡ false) × (m .slots .two .loaded ≡ false) → someForce real (m .slots) (m .clock .date) ≡ false
-    none u = rw (no-slot (m .slots .one) (m .clock .date) (u .0), no-slot (m .slots .two) (m .clock .date) (u .1))
-
-pub stamp-date : (s : Stamp) → stampGood real s ≡ true → isDate (s .date) ≡ true
-unfolding stampGood
-stamp-date s h = and-left (isDate (s .date)) (leb (s .second) 86399) h
+date-some m h i = cases (noClock m)
+    (λ q. absurd (never i (no-force real (m .slots) (m .clock .date) (fresh-parts real m (unclocked m h q) .1))))
+    (λ q. clocked m h q)
 
 -- a pulse call
 pub record PulseRoom (m : State) (n : ℕ) : Type 0 where
@@ -113,9 +83,9 @@ pub record PulseRoom (m : State) (n : ℕ) : Type 0 where
 
 pub pulse-room : (m : State) (n : ℕ) → stateGood real m ≡ true → m .volumes .total .0 + n ≤ 99999999 → PulseRoom m n
 pulse-room m n h t =
-    let s = state-in real real-laws m h in
-    let a = slots-in real real-laws (m .slots) (m .clock .date) (m .volumes .total .0) (s .slots) in
-    let c = account-room (m .account) (m .volumes .total .0) (s .account) (total-low real real-laws m s) in
+    let s = state-in real m h in
+    let a = slots-in real (m .slots) (m .clock .date) (m .volumes .total .0) (s .slots) in
+    let c = account-room (m .account) (m .volumes .total .0) (s .account) (total-low real m s) in
     let j = room (m .volumes .total .0) (m .periods) (s .periods) in
     record {
       one = a .one;
@@ -125,7 +95,7 @@ pulse-room m n h t =
       cost = fee-cap real real-laws (m .slots) (m .clock .date) (m .volumes .total .0) n a;
       few = omega arith;
       total = omega arith;
-      unpriced = omega (arith, total-in real real-laws (m .volumes) (s .volumes) .1);
+      unpriced = omega (arith, total-in (m .volumes) (s .volumes) .1);
       day = omega (arith, j .dayVolume);
       month = omega (arith, j .monthVolume);
       dayCharge = omega (arith, j .dayCharge);
@@ -135,13 +105,10 @@ pulse-room m n h t =
 -- after an accepted test of the count, on the turned meter
 pub pulses-fit : (m : State) (s : Stamp) (n : ℕ) → pulseRefusal (m .volumes) n ≡ Accepted → turn real m s .volumes .total .0 + n ≤ 99999999
 unfolding pulseRefusal
-pulses-fit m s n h =
-    let c14 = need (leb (m .volumes .total .0 + n) highestTotal) 14 Accepted in
-    let k = leb-true (m .volumes .total .0 + n) highestTotal (need-first (leb (m .volumes .total .0 + n) highestTotal) 14 Accepted (need-rest (leb n 65535) 13 c14 h)) in
-    rw (turn-volumes real real-laws m s) k
+pulses-fit m s n h = rw (turn-volumes real m s) (leb-true _ _ (need-both 14 {a = Accepted} (need-both {b = leb n mostPulses} 13 h .1) .0))
 
 pub turned-good : (m : State) (s : Stamp) → stampRefusal real m s ≡ Accepted → stateGood real (turn real m s) ≡ true
-turned-good m s h = state-out real real-laws (turn real m s) (turned-state m s h)
+turned-good m s h = state-out real (turn real m s) (turned-state m s h)
 
 -- the registers after a turn, whether the day turned or not: a stamp of the clock's own date turns no day
 pub turned-clock : (m : State) (s : Stamp) → withClock (alone (registersOf (turn real m s))) s ≡ alone (registersOf (turn real m s))
@@ -163,19 +130,19 @@ module _ (r : Registers) (words : List ℕ) (s : Stamp) (h : s .date ≤ r .cloc
 
 -- pulses look at no record, and without them the bounds hold too
 pub alone-good : (m : State) → stateGood real m ≡ true → stateGood real (alone (registersOf m)) ≡ true
-unfolding registersOf stateWith freshHeld
+unfolding registersOf stateWith isFreshHeld
 alone-good m h =
-    let p = state-in real real-laws m h in
-    state-out real real-laws (alone (registersOf m)) (record {
+    let p = state-in real m h in
+    state-out real (alone (registersOf m)) (record {
       volumes = p .volumes;
       account = p .account;
       slots = p .slots;
       periods = p .periods;
-      held = fresh-held (m .volumes .total .0) noneHeld none-fresh;
+      held = fresh-held highestBalance (m .volumes .total .0) noneHeld none-fresh;
       idle = p .idle;
     })
   where
-    none-fresh : freshHeld noneHeld ≡ true
+    none-fresh : isFreshHeld noneHeld ≡ true
     none-fresh = refl
 
 pub pulsed-alone : (m : State) (n : ℕ) → registersOf (pulsed real (alone (registersOf m)) n) ≡ registersOf (pulsed real m n)
@@ -199,14 +166,14 @@ same-force m s h l =
     ap (forceOn real (m .slots)) e ∙ later-force m s
 
 -- an account within its bounds
-pub small-balance : (m : State) → Parts real real-laws m → Small (m .account .balance .0)
-small-balance m s = account-room (m .account) (m .volumes .total .0) (s .account) (total-low real real-laws m s) .small
+pub small-balance : (m : State) → Parts real m → Small (m .account .balance .0)
+small-balance m s = account-room (m .account) (m .volumes .total .0) (s .account) (total-low real m s) .small
 
-pub low-serial : (m : State) → Parts real real-laws m → m .account .serial ≤ 65535
-low-serial m s = account-room (m .account) (m .volumes .total .0) (s .account) (total-low real real-laws m s) .serial
+pub low-serial : (m : State) → Parts real m → m .account .serial ≤ 65535
+low-serial m s = account-room (m .account) (m .volumes .total .0) (s .account) (total-low real m s) .serial
 
-pub small-amount : (m : State) (amount serial : ℕ) → Parts real real-laws m → rechargeRefusal (m .account) amount serial ≡ Accepted → amount ≤ 2 ^ 55
-small-amount m amount serial s h = recharge-small (m .account) (m .volumes .total .0) amount serial (s .account) (total-low real real-laws m s) h
+pub small-amount : (m : State) (amount serial : ℕ) → Parts real m → rechargeRefusal (m .account) amount serial ≡ Accepted → amount ≤ 2 ^ 55
+small-amount m amount serial s h = recharge-small (m .account) (m .volumes .total .0) amount serial (s .account) (total-low real m s) h
 
 -- the station's two commands
 pub is-command : (k : ℕ) → k ≤ 1 → (eqb k 0 || eqb k 1) ≡ true

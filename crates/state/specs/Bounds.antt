@@ -2,12 +2,13 @@
 use mathlib.Core.Bool.{Bool, cond, _&&_}
 use lib.Dec.{leb, eqb}
 use Rattle.units.specs.Volume.{highestTotal}
+use Rattle.units.specs.Money.{highestBalance}
 use Rattle.calendar.specs.declared.Stamp.{Stamp}
-use Rattle.account.specs.Account.{accountGood, freshAccount}
-use Rattle.account.specs.Valve.{freshValve}
-use Rattle.records.specs.Bounds.{periodsGood, heldGood, freshPeriods, freshHeld}
+use Rattle.account.specs.Account.{accountGood, isFreshAccount}
+use Rattle.account.specs.Valve.{isFreshValve}
+use Rattle.records.specs.Bounds.{periodsGood, heldGood, isFreshPeriods, isFreshHeld}
 use Rattle.slots.specs.World.{World}
-use Rattle.slots.specs.Bounds.{slotsGood, idleGood, freshSlots}
+use Rattle.slots.specs.Bounds.{slotsGood, idleGood, isFreshSlots}
 use Rattle.state.specs.declared.Volumes.{Volumes}
 use Rattle.state.specs.State.{State}
 
@@ -19,14 +20,14 @@ stampGood w s = w .date (s .date) && leb (s .second) 86399
 abbrev pub noClock : State → Bool
 noClock m = eqb (m .clock .date) 0
 
-unfoldable pub freshVolumes : Volumes → Bool
-freshVolumes v = eqb (v .total .0) 0 && eqb (v .unpriced .0) 0
+unfoldable pub isFreshVolumes : Volumes → Bool
+isFreshVolumes v = eqb (v .total .0) 0 && eqb (v .unpriced .0) 0
 
 -- "without a clock it is the fresh one": every group at its fresh values
 unfoldable pub isFresh : State → Bool
 isFresh m =
-    eqb (m .clock .second) 0 && (freshAccount (m .account) && (freshSlots (m .slots) && (freshVolumes (m .volumes)
-    && (freshValve (m .valve) && (freshPeriods (m .periods) && freshHeld (m .held))))))
+    eqb (m .clock .second) 0 && (isFreshAccount (m .account) && (isFreshSlots (m .slots) && (isFreshVolumes (m .volumes)
+    && (isFreshValve (m .valve) && (isFreshPeriods (m .periods) && isFreshHeld (m .held))))))
 
 -- "total is at most 99,999,999, every other volume .. at most the total"
 unfoldable pub volumesGood : Volumes → Bool
@@ -38,7 +39,7 @@ unfoldable pub stateGood : World → State → Bool
 stateGood w m =
     volumesGood (m .volumes) && (accountGood (m .account) (m .volumes .total .0)
     && (slotsGood w (m .slots) (m .clock .date) (m .volumes .total .0)
-    && (periodsGood (m .volumes .total .0) (m .periods) && (heldGood (m .volumes .total .0) (m .held)
+    && (periodsGood (m .volumes .total .0) (m .periods) && (heldGood highestBalance (m .volumes .total .0) (m .held)
     && idleGood w (m .slots) (m .valve .opened) (m .clock .date)))))
 
 -- "without a clock it is the fresh one. Otherwise clock .. as the refusals allow" and the state within its bounds

@@ -25,8 +25,11 @@ unfoldable pub stampRefusal : World → State → Stamp → Answer
 stampRefusal w m s = need (bounded w m) 0 (need (stampGood w s) 8 (need (notBefore (m .clock) s) 9 Accepted))
 
 -- "Pulses: 13, more than 65,535; 14, total would pass 99,999,999."
+abbrev pub mostPulses : ℕ
+mostPulses = 65535
+
 unfoldable pub pulseRefusal : Volumes → ℕ → Answer
-pulseRefusal v n = need (leb n 65535) 13 (need (leb (v .total .0 + n) highestTotal) 14 Accepted)
+pulseRefusal v n = need (leb n mostPulses) 13 (need (leb (v .total .0 + n) highestTotal) 14 Accepted)
 
 -- "Key: 22, mark "forbid", balance not above zero, or no plan in force on the stamp's date."
 unfoldable pub keyAllowed : World → State → ℕ → Bool

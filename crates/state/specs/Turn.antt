@@ -10,21 +10,19 @@ use Rattle.records.specs.Moves.{closedWords}
 use Rattle.slots.specs.World.{World}
 use Rattle.slots.specs.Slots.{someForce, slotsTurned}
 use Rattle.state.specs.declared.Registers.{Registers}
-use Rattle.state.specs.State.{State, withClock}
+use Rattle.state.specs.State.{State, withClock, withSlots, withValve, withRecords}
 use Rattle.state.specs.Bounds.{noClock}
 
 -- a later date: the open day becomes a record, and a later month likewise; usage is kept or begins at 0; with no plan in force an open
 -- valve closes. "The first accepted call turns no day; it opens its day and month."
 unfoldable pub turnedTo : World → State → Stamp → State
-turnedTo w m s = record {
-  clock = s;
-  account = m .account;
-  slots = slotsTurned w (m .slots) (m .clock .date) (s .date);
-  volumes = m .volumes;
-  valve = valveKept (m .valve) (someForce w (m .slots) (s .date));
-  periods = cond (noClock m) (m .periods) (opened (m .periods) (m .clock .date) (s .date));
-  held = cond (noClock m) (m .held) (closed (m .held) (m .periods) (m .clock .date) (s .date) (m .account .balance));
-}
+turnedTo w m s =
+    withClock (withSlots (withValve (withRecords m
+    (cond (noClock m) (m .periods) (opened (m .periods) (m .clock .date) (s .date)))
+    (cond (noClock m) (m .held) (closed (m .held) (m .periods) (m .clock .date) (s .date) (m .account .balance))))
+    (valveKept (m .valve) (someForce w (m .slots) (s .date))))
+    (slotsTurned w (m .slots) (m .clock .date) (s .date)))
+    s
 
 -- "If its date is later than the clock's ..; then the clock takes the stamp."
 unfoldable pub turn : World → State → Stamp → State
