@@ -60,7 +60,7 @@ impl Machine {
         let t = self.registers.turn(words, was, is, p.stamp);
         let mut next = t.registers;
         next.account = next.account.recharged(p.amount, p.serial);
-        Machine::accepted(next, t.codes.note(0x21))
+        Machine::accepted(next, t.codes.note(Codes::RECHARGED))
     }
 
     // A plan loaded into a slot; the record is a lent slice of any length.
@@ -81,7 +81,7 @@ impl Machine {
         let t = self.registers.turn(words, was, is, p.stamp);
         let mut next = t.registers;
         next.slots = next.slots.loaded(p.slot, r.plan);
-        Machine::accepted(next, t.codes.note(0x27))
+        Machine::accepted(next, t.codes.note(Codes::SET))
     }
 
     // The two alarms set, in whole yuan.
@@ -100,7 +100,7 @@ impl Machine {
         let t = self.registers.turn(words, was, is, p.stamp);
         let mut next = t.registers;
         next.account = next.account.alarmed(p.one, p.two);
-        Machine::accepted(next, t.codes.note(0x27))
+        Machine::accepted(next, t.codes.note(Codes::SET))
     }
 
     // A command of the master station: 0 forbids, 1 allows.

@@ -10,12 +10,11 @@ use Rattle.account.specs.Codes.{noCodes, noteAll}
 use Rattle.answer.specs.declared.Answer.the-variants.{Accepted}
 use Rattle.slots.specs.declared.Force.{Force}
 use Rattle.slots.specs.Slots.{forceOn}
-use Rattle.slots.proofs.Real.{real-laws}
 use Rattle.state.specs.declared.Registers.{Registers}
 use Rattle.state.specs.Turn.{turn, turnCodes, turnWords}
 use Rattle.state.specs.Refusals.{pulseRefusal}
 use Rattle.state.specs.Pulsed.{pulsed, pulseCodes}
-use Rattle.state.proofs.Turned.{total-low}
+use Rattle.state.proofs.Parts.{total-low}
 use Rattle.state.proofs.Rooms.{state, turned-good, pulses-fit, turned-clock, same-day, same-codes, same-words, alone-good, pulsed-alone, codes-alone, later-force, same-force}
 use Rattle.slots.specs.World.{real}
 use Rattle.slots.proofs.InForce.{its-some}
@@ -50,7 +49,7 @@ returns c =
 
 vet-requires : tie.Need-vet-requires
 unfolding stateWith
-vet-requires c κs = total-low real real-laws _ (state _ (stamped c .bounds))
+vet-requires c κs = total-low real _ (state _ (stamped c .bounds))
 
 returns-2 : tie.Need-returns-2
 unfolding ownRefusal stateWith

@@ -2,7 +2,6 @@
 use mathlib.Core.Path.{sym, _∙_}
 use borrow.Author.Needs.{needs}
 use Rattle.account.specs.Codes.{noteAll}
-use Rattle.slots.proofs.Real.{real-laws}
 use Rattle.state.proofs.Turned.{turn-account}
 use Rattle.state.proofs.Rooms.{state, small-balance, low-serial, small-amount}
 use Rattle.slots.specs.World.{real}
@@ -62,7 +61,7 @@ recharged-requires c κs =
     let m = stateIn (lent (start k)) in
     let p = start k .args .p in
     let s = state m (stamped k .bounds) in
-    rw (c .before .turn .ensures .0, turn-account real real-laws m (p .stamp))
+    rw (c .before .turn .ensures .0, turn-account real m (p .stamp))
     (small-balance m s, small-amount m (p .amount .0) (p .serial) s (sym (a .before .before .vet .ensures) ∙ a .enum-told2 .given .1))
 
 returns-3 : tie.Need-returns-3
