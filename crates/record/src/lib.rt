@@ -12,7 +12,7 @@ ghost use lib.Seq.{sets};
 ghost use Rattle.record.specs.Digits.{pairOf, byteOf, twoDigits, numberOf, quadOf, quadAt, fourBytes};
 ghost use Rattle.record.specs.Fields.{fieldsOf, bytesOf};
 ghost use Rattle.record.specs.Record.{readingOf, readOf, writeAnswer, written};
-ghost use Rattle.record.specs.Choice.{which, choiceOf, partOf, numberOf as refusalOf, handed};
+ghost use Rattle.record.specs.Choice.{which, choiceOf, partOf, handed};
 
 // A plan that was read, all zero where it is refused.
 pub struct Reading {
@@ -239,25 +239,10 @@ pub fn pick<'a>(first: &'a [u8], second: &'a [u8], c: Choice) -> &'a [u8]
     }
 }
 
-// The number of a refusal, 255 where there is none.
-fn refusal_of(c: Choice) -> u8
-    ensures { λ r. ⌜ r ≡ refusalOf c ⌝ }
-{
-    match c {
-        Choice::First => 255,
-        Choice::Second => 255,
-        Choice::Refused(n) => n,
-    }
-}
-
-// The record in force on a date; or an empty part, with the refusal's number in `refusal`, which is
-// 255 where there is none.
-pub fn in_force<'a>(first: &'a [u8], second: &'a [u8], date: u32, refusal: &mut u8) -> &'a [u8]
+// The record in force on a date, an empty part where `choose` refuses.
+pub fn in_force<'a>(first: &'a [u8], second: &'a [u8], date: u32) -> &'a [u8]
     ensures { λ r. ⌜ (r ≡ handed (choiceOf (now (first .entry)) (now (second .entry)) date) (first .entry) (second .entry) r)
-        × (now r ≡ partOf (choiceOf (now (first .entry)) (now (second .entry)) date) (now (first .entry)) (now (second .entry)))
-        × (now (refusal .exit) ≡ refusalOf (choiceOf (now (first .entry)) (now (second .entry)) date)) ⌝ }
+        × (now r ≡ partOf (choiceOf (now (first .entry)) (now (second .entry)) date) (now (first .entry)) (now (second .entry))) ⌝ }
 {
-    let c = choose(first, second, date);
-    *refusal = refusal_of(c);
-    pick(first, second, c)
+    pick(first, second, choose(first, second, date))
 }
