@@ -44,7 +44,7 @@ real d h =
     }
 
 -- what rises with each step rises over many
-climbs : (f : ℕ → ℕ) → ((k : ℕ) → f k ≤ f (suc k)) → (j k : ℕ) → j ≤ k → f j ≤ f k
+pub climbs : (f : ℕ → ℕ) → ((k : ℕ) → f k ≤ f (suc k)) → (j k : ℕ) → j ≤ k → f j ≤ f k
 climbs f s j zero h = let e : j ≡ 0 = omega arith in rw e (omega arith)
 climbs f s j (suc k) h =
     cases (leb j k)
