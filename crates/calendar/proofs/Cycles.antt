@@ -1,9 +1,8 @@
--- Cycles follow the order of the dates, and what names a cycle has eight digits at most. Nothing here sees how days are numbered
--- but through the laws of `Days`. Assumes nothing.
-use mathlib.Core.Path.{_≡_, refl}
+-- Cycles follow the order of the dates. How days are numbered is seen only through the laws of `Days`. Assumes nothing.
+use mathlib.Core.Path.{_≡_}
 use mathlib.Core.Bool.{true, cond}
 use Prim.Native.Nat.{ℕ, zero, suc, _+_, _-_, _/_, _≤_, _<_}
-use native.Mathlib.Nat.{le-trans, le-div-iff-mul-le, div-mul-le-self, div-le-self, div-zero}
+use native.Mathlib.Nat.{le-trans, le-div-iff-mul-le, div-mul-le-self, div-zero}
 use native.Mathlib.Numerals.{add-one}
 use native.Mathlib.Omega.{arith}
 use lib.Dec.{leb, ltb, eqb}
@@ -12,49 +11,12 @@ use Rattle.calendar.specs.Date.{yearOf, monthOf, isDate}
 use Rattle.calendar.specs.DayNumber.{dayNumber}
 use Rattle.calendar.specs.Cycle.{monthStart, quarterMonth, quarterStart, yearStart, cycleStart, runOf}
 use Rattle.calendar.proofs.Bools.{cases, either, alike}
-use Rattle.calendar.proofs.Days.{Real, real, is-real, number-keeps, number-bound}
-
--- word 01 is the calendar month
-pub start-month : (d : ℕ) → cycleStart 1 d ≡ monthStart d
-unfolding cycleStart
-start-month d = refl
-
--- word 02 is the quarter
-pub start-quarter : (d : ℕ) → cycleStart 2 d ≡ quarterStart d
-unfolding cycleStart
-start-quarter d = refl
-
--- word 03 is the year
-pub start-year : (d : ℕ) → cycleStart 3 d ≡ yearStart d
-unfolding cycleStart
-start-year d = refl
+use Rattle.calendar.proofs.Days.{number-keeps}
 
 -- a later date's month does not start before
 pub month-rises : (a b : ℕ) → a ≤ b → monthStart a ≤ monthStart b
 unfolding monthStart
 month-rises a b h = omega arith
-
--- the parts of the first of a date's month
-first-of-month : (d : ℕ) → Real d → Real (monthStart d)
-unfolding monthStart
-first-of-month d r =
-    let y : yearOf (monthStart d) ≡ yearOf d = omega arith in
-    let m : monthOf (monthStart d) ≡ monthOf d = omega arith in
-    record {
-      from = omega (arith, r .from);
-      to = omega (arith, r .to);
-      year-from = omega (arith, r .from);
-      year-to = omega (arith, r .to);
-      month-from = omega (arith, r .month-from);
-      month-to = omega (arith, r .month-to);
-      day-from = omega arith;
-      day-to = rw (y, m) (omega (arith, r .day-from, r .day-to));
-      whole = omega arith;
-    }
-
--- the first of a date's month is a date
-pub month-start-date : (d : ℕ) → isDate d ≡ true → isDate (monthStart d) ≡ true
-month-start-date d h = is-real (monthStart d) (first-of-month d (real d h))
 
 -- a choice by m ≤ k and by n ≤ k, where m is no larger
 chosen : (k x : ℕ) (m n y z : ℕ) → m ≤ n → x ≤ z → y ≤ z → cond (leb m k) x y ≤ cond (leb n k) x z
@@ -93,9 +55,9 @@ unfolding yearStart
 year-rises a b h = omega arith
 
 -- a later date's cycle does not start before
-pub start-rises : (w a b : ℕ) → isDate a ≡ true → isDate b ≡ true → a ≤ b → cycleStart w a ≤ cycleStart w b
+pub start-rises : (w a b : ℕ) → a ≤ b → cycleStart w a ≤ cycleStart w b
 unfolding cycleStart
-start-rises w a b ha hb h =
+start-rises w a b h =
     alike (eqb w 1) (month-rises a b h)
     (alike (eqb w 2) (quarter-rises a b h) (alike (eqb w 3) (year-rises a b h) (omega arith)))
 
@@ -115,30 +77,12 @@ div-rises x y zero h = rw (div-zero x, div-zero y) (omega arith)
 div-rises x y (suc n) h = le-div-iff-mul-le {k = suc n} (omega arith) .1 (le-trans (div-mul-le-self x (suc n)) h)
 
 -- a later date's run is not an earlier one, whatever the first day and the days of a run are
-pub run-rises : (first n a b : ℕ) → isDate a ≡ true → isDate b ≡ true → a ≤ b → runOf first n a ≤ runOf first n b
-run-rises first n a b ha hb h =
+pub run-rises : (first n a b : ℕ) → isDate a ≡ true → a ≤ b → runOf first n a ≤ runOf first n b
+run-rises first n a b ha h =
     cases (ltb a first)
     (λ e. rw (run-before first n a (ltb-true a first e)) (omega arith))
     (λ e.
     let from = ltb-false a first e in
-    let days = number-keeps a b ha hb h in
+    let days = number-keeps a b ha h in
     let runs = div-rises (dayNumber a - dayNumber first) (dayNumber b - dayNumber first) n (omega arith) in
     rw (run-from first n a from, run-from first n b (omega arith)) (omega arith))
-
--- a date's cycle start has eight digits
-pub start-bound : (w d : ℕ) → isDate d ≡ true → cycleStart w d < 100000000
-unfolding cycleStart monthStart quarterStart yearStart
-start-bound w d h =
-    let r = real d h in
-    either (λ i. i < 100000000) (eqb w 1) (omega arith)
-    (either (λ i. i < 100000000) (eqb w 2) (omega (arith, quarter-month-bound (monthOf d)))
-    (either (λ i. i < 100000000) (eqb w 3) (omega arith) (omega arith)))
-
--- so has the number of a date's run
-pub run-bound : (first n d : ℕ) → isDate d ≡ true → runOf first n d < 100000000
-run-bound first n d h =
-    cases (ltb d first)
-    (λ e. rw (run-before first n d (ltb-true d first e)) (omega arith))
-    (λ e.
-    let share = div-le-self (dayNumber d - dayNumber first) n in
-    rw (run-from first n d (ltb-false d first e)) (omega (arith, number-bound d h)))

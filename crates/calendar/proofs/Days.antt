@@ -1,10 +1,10 @@
--- What a real date is, part by part, and that day numbers rise with the dates. Only `all-years` sees the leap rule. Assumes nothing.
+-- What a real date is, part by part, and that day numbers follow the order of the dates. Only `all-years` sees the leap rule. Assumes nothing.
 use mathlib.Core.Path.{_≡_, refl}
 use mathlib.Core.Bool.{true}
-use Prim.Native.Nat.{ℕ, zero, suc, _+_, _-_, _*_, _≤_, _<_}
+use Prim.Native.Nat.{ℕ, zero, suc, _+_, _-_, _≤_, _<_}
 use native.Mathlib.Omega.{arith}
 use lib.Dec.{leb, ltb}
-use borrow.Author.Tests.{leb-true, leb-false, ltb-true, ltb-false, le-leb}
+use borrow.Author.Tests.{leb-true, leb-false, ltb-true, ltb-false}
 use Rattle.calendar.specs.Date.{yearOf, monthOf, dayOf, firstDate, lastDate, isLeap, daysIn, isDay, isDate}
 use Rattle.calendar.specs.DayNumber.{daysOfMonths, daysOfYears, dayNumber}
 use Rattle.calendar.proofs.Bools.{cases, both}
@@ -20,7 +20,6 @@ pub record Real (d : ℕ) : Type 0 where
   pub month-to : monthOf d ≤ 12
   pub day-from : 1 ≤ dayOf d
   pub day-to : dayOf d ≤ daysIn (yearOf d) (monthOf d)
-  pub whole : d ≡ yearOf d * 10000 + monthOf d * 100 + dayOf d
 
 -- what `isDate` says of a date
 pub real : (d : ℕ) → isDate d ≡ true → Real d
@@ -42,24 +41,10 @@ real d h =
       month-to = leb-true _ _ (h₄ .0);
       day-from = leb-true _ _ (h₅ .0);
       day-to = leb-true _ _ (h₅ .1);
-      whole = omega arith;
     }
 
--- a number with these parts is a date
-pub is-real : (d : ℕ) → Real d → isDate d ≡ true
-unfolding isDate isDay
-is-real d r =
-    rw (
-      le-leb firstDate d (r .from),
-      le-leb d lastDate (r .to),
-      le-leb 1 (monthOf d) (r .month-from),
-      le-leb (monthOf d) 12 (r .month-to),
-      le-leb 1 (dayOf d) (r .day-from),
-      le-leb (dayOf d) (daysIn (yearOf d) (monthOf d)) (r .day-to),
-    )
-
 -- what rises with each step rises over many
-climbs : (f : ℕ → ℕ) → ((k : ℕ) → f k ≤ f (suc k)) → (j k : ℕ) → j ≤ k → f j ≤ f k
+pub climbs : (f : ℕ → ℕ) → ((k : ℕ) → f k ≤ f (suc k)) → (j k : ℕ) → j ≤ k → f j ≤ f k
 climbs f s j zero h = let e : j ≡ 0 = omega arith in rw e (omega arith)
 climbs f s j (suc k) h =
     cases (leb j k)
@@ -101,31 +86,24 @@ later-month a b p e h =
     let months = months-climb (yearOf a) (monthOf a) (monthOf b - 1) (omega arith) in
     rw (← e) (omega (arith, before-month a p, months))
 
--- a later date of the same month
-later-day : (a b : ℕ) → Real a → yearOf a ≡ yearOf b → monthOf a ≡ monthOf b → dayOf a < dayOf b → dayNumber a < dayNumber b
+-- a date of the same month
+same-month : (a b : ℕ) → Real a → yearOf a ≡ yearOf b → monthOf a ≡ monthOf b → dayOf a ≤ dayOf b → dayNumber a ≤ dayNumber b
 unfolding dayNumber
-later-day a b p e m h = rw (e, m) (omega (arith, p .day-from))
+same-month a b p e m h = rw (e, m) (omega (arith, p .day-from))
 
--- a later real date has a larger day number
-pub number-rises : (a b : ℕ) → isDate a ≡ true → isDate b ≡ true → a < b → dayNumber a < dayNumber b
-number-rises a b ha hb h =
+-- a later real date has no smaller day number
+pub number-keeps : (a b : ℕ) → isDate a ≡ true → a ≤ b → dayNumber a ≤ dayNumber b
+number-keeps a b ha h =
     let p = real a ha in
     cases (ltb (yearOf a) (yearOf b))
-    (λ t. later-year a b p (ltb-true (yearOf a) (yearOf b) t))
+    (λ t. omega (arith, later-year a b p (ltb-true (yearOf a) (yearOf b) t)))
     (λ t.
     let e : yearOf a ≡ yearOf b = omega (arith, ltb-false (yearOf a) (yearOf b) t) in
     cases (ltb (monthOf a) (monthOf b))
-    (λ u. later-month a b p e (ltb-true (monthOf a) (monthOf b) u))
+    (λ u. omega (arith, later-month a b p e (ltb-true (monthOf a) (monthOf b) u)))
     (λ u.
     let m : monthOf a ≡ monthOf b = omega (arith, ltb-false (monthOf a) (monthOf b) u) in
-    later-day a b p e m (omega arith)))
-
--- the same where the dates may be one
-pub number-keeps : (a b : ℕ) → isDate a ≡ true → isDate b ≡ true → a ≤ b → dayNumber a ≤ dayNumber b
-number-keeps a b ha hb h =
-    cases (ltb a b)
-    (λ t. omega (arith, number-rises a b ha hb (ltb-true a b t)))
-    (λ t. let e : a ≡ b = omega (arith, ltb-false a b t) in rw e (omega arith))
+    same-month a b p e m (omega arith)))
 
 -- the days of the hundred years
 all-years : daysOfYears 100 ≡ 36525

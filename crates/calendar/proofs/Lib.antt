@@ -1,6 +1,6 @@
 pub mod Bools
+pub mod Chain
 pub mod Lengths
 pub mod Days
 pub mod Cycles
 pub mod Stamps
-pub mod Sums

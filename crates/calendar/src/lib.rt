@@ -7,6 +7,11 @@ ghost use Rattle.calendar.specs.Stamp.{isStamp, dated, notBefore};
 ghost use Rattle.calendar.specs.DayNumber.{daysOfMonths, daysOfYears, dayNumber};
 ghost use Rattle.calendar.specs.Cycle.{monthStart, quarterMonth, quarterStart, yearStart, cycleStart, runOf};
 
+// The first and the last date of the calendar.
+const FIRST_DATE: u32 = 20_000_101;
+
+const LAST_DATE: u32 = 20_991_231;
+
 // A date, YYYYMMDD, and a second of that day.
 #[repr(C)]
 pub struct Stamp {
@@ -51,14 +56,16 @@ fn is_day(y: u32, m: u32, d: u32) -> bool
 pub fn is_date(d: u32) -> bool
     ensures { λ r. ⌜ r ≡ isDate d ⌝ }
 {
-    20_000_101 <= d && (d <= 20_991_231 && is_day(d / 10_000, d / 100 % 100, d % 100))
+    FIRST_DATE <= d && (d <= LAST_DATE && is_day(d / 10_000, d / 100 % 100, d % 100))
 }
 
 impl Stamp {
+    pub const LAST_SECOND: u32 = 86_399;
+
     pub fn is_stamp(self) -> bool
         ensures { λ r. ⌜ r ≡ isStamp self ⌝ }
     {
-        is_date(self.date) && self.second <= 86_399
+        is_date(self.date) && self.second <= Stamp::LAST_SECOND
     }
 
     // The date, or refusal 8.

@@ -1,11 +1,11 @@
 -- The cycles of a plan follow the order of the dates. Assumes nothing.
 use mathlib.Core.Path.{_≡_}
 use mathlib.Core.Bool.{true}
-use Prim.Native.Nat.{ℕ, _≤_, _<_}
+use Prim.Native.Nat.{ℕ, _≤_}
 use lib.Dec.{eqb}
 use Rattle.calendar.specs.Date.{isDate}
 use Rattle.calendar.proofs.Bools.{cases}
-use Rattle.calendar.proofs.Cycles.{start-rises, start-bound, run-rises, run-bound}
+use Rattle.calendar.proofs.Cycles.{start-rises, run-rises}
 use Rattle.plan.specs.declared.Plan.{Plan}
 use Rattle.plan.specs.Plan.{cycleWord}
 use Rattle.plan.specs.Cycles.{cycleOf}
@@ -15,13 +15,5 @@ pub cycle-rises : (p : Plan) (a b : ℕ) → isDate a ≡ true → isDate b ≡ 
 unfolding cycleOf
 cycle-rises p a b ha hb h =
     cases (eqb (cycleWord p) 5)
-    (λ e. rw e (run-rises (p .first) (p .second) a b ha hb h))
-    (λ e. rw e (start-rises (cycleWord p) a b ha hb h))
-
--- the number of a date's cycle has eight digits
-pub cycle-bound : (p : Plan) (d : ℕ) → isDate d ≡ true → cycleOf p d < 100000000
-unfolding cycleOf
-cycle-bound p d h =
-    cases (eqb (cycleWord p) 5)
-    (λ e. rw e (run-bound (p .first) (p .second) d h))
-    (λ e. rw e (start-bound (cycleWord p) d h))
+    (λ e. rw e (run-rises (p .first) (p .second) a b ha h))
+    (λ e. rw e (start-rises (cycleWord p) a b h))

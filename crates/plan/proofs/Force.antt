@@ -1,6 +1,6 @@
 -- The days in force are one run of days, and when the runs of two plans meet. Assumes nothing.
-use mathlib.Core.Path.{_≡_, refl, sym}
-use mathlib.Core.Bool.{Bool, true, false, _&&_}
+use mathlib.Core.Path.{_≡_}
+use mathlib.Core.Bool.{true, false}
 use Prim.Native.Nat.{ℕ, _≤_, _<_, min, max}
 use native.Mathlib.Omega.{arith}
 use lib.Dec.{ltb, leb, eqb}
@@ -13,12 +13,6 @@ use Rattle.plan.specs.Rules.{someDay, isGood}
 use Rattle.plan.specs.Force.{inPeriod, inForce, firstDay, endDay, meet}
 use Rattle.plan.specs.Meeting.{Meeting}
 use Rattle.plan.proofs.Good.{start-date, window-dates, period-order, window-order}
-
--- two tests that follow from each other
-same : (a b : Bool) → (a ≡ true → b ≡ true) → (b ≡ true → a ≡ true) → a ≡ b
-same true b f g = sym (f refl)
-same false true f g = g refl
-same false false f g = refl
 
 -- a date in a period is not before its first and before its last
 within : (from to d : ℕ) → inPeriod from to d ≡ true → (from ≤ d) × (d < to)
@@ -48,13 +42,6 @@ module _ (p : Plan) (d : ℕ) where
       let g : d < min (p .end) (p .second) = rw e at k in
       rw (e, inside (p .start) (p .end) d (omega arith) (omega arith), inside (p .first) (p .second) d (omega arith) (omega arith)))
       (λ e. rw (e, inside (p .start) (p .end) d (rw e at h) (rw e at k)))
-
-  -- the same as one test
-  pub in-force-is : inForce p d ≡ (leb (firstDay p) d && ltb d (endDay p))
-  in-force-is =
-      same _ _
-      (λ h. let t = force-within h in inside (firstDay p) (endDay p) d (t .0) (t .1))
-      (λ h. let t = within (firstDay p) (endDay p) d h in within-force (t .0) (t .1))
 
 -- between two dates in force every date is
 pub convex : (p : Plan) (a b c : ℕ) → a ≤ b → b ≤ c → inForce p a ≡ true → inForce p c ≡ true → inForce p b ≡ true

@@ -10,8 +10,8 @@ use Rattle.plan.specs.declared.Plan.{Plan}
 use Rattle.answer.specs.declared.Answer.{Answer}
 use Rattle.answer.specs.declared.Answer.the-variants.{Accepted, Refused}
 use Rattle.answer.specs.Answer.{need, isAccepted}
-use Rattle.plan.specs.Plan.{widthAt, priceAt, cycleWord, hasExtra}
-use Rattle.plan.specs.Rules.{every, eightDigits, pairGood, hasPrice}
+use Rattle.plan.specs.Plan.{mostSteps, widthAt, priceAt, cycleWord, hasExtra}
+use Rattle.plan.specs.Rules.{mostNumber, every, eightDigits, pairGood, hasPrice}
 use Rattle.plan.specs.Rules.{stepsGood, wordGood, numbersGood, datesGood, someDay, priced, verdict, isGood}
 use Rattle.plan.proofs.Every.{every-at}
 
@@ -46,11 +46,6 @@ tests p h =
     let c = passed (priced p) 7 _ (y .1) in
     record { steps = s .0; word = w .0; numbers = n .0; dates = d .0; days = y .0; prices = c .0 }
 
--- a plan that passes each test is good
-pub good : (p : Plan) → Tests p → isGood p ≡ true
-unfolding isGood verdict
-good p t = rw (t .steps, t .word, t .numbers, t .dates, t .days, t .prices)
-
 -- a good plan is accepted
 pub verdict-good : (p : Plan) → isGood p ≡ true → verdict p ≡ Accepted
 unfolding isGood
@@ -61,15 +56,10 @@ pub good-verdict : (p : Plan) → verdict p ≡ Accepted → isGood p ≡ true
 unfolding isGood
 good-verdict p h = rw h
 
--- a number of steps that passes is 1 at least
-pub steps-least : (p : Plan) → stepsGood p ≡ true → 1 ≤ p .steps
+-- a number of steps that passes is 6 at most
+pub steps-most : (p : Plan) → stepsGood p ≡ true → p .steps ≤ mostSteps
 unfolding stepsGood
-steps-least p h = leb-true 1 (p .steps) (both _ _ h .0)
-
--- and 6 at most
-pub steps-most : (p : Plan) → stepsGood p ≡ true → p .steps ≤ 6
-unfolding stepsGood
-steps-most p h = leb-true (p .steps) 6 (both (leb 1 (p .steps)) _ h .1)
+steps-most p h = leb-true (p .steps) mostSteps (both (leb 1 (p .steps)) _ h .1)
 
 -- the part of the test of the dates that goes by the word
 abbrev extraDates : Plan → Bool
@@ -84,23 +74,15 @@ extraDays p =
     (cond (eqb (cycleWord p) 5) (leb 1 (p .second)) true)
 
 module _ (p : Plan) (h : isGood p ≡ true) where
-  -- a good plan has a step
-  pub steps-from : 1 ≤ p .steps
-  steps-from = steps-least p (tests p h .steps)
-
-  -- and no more than six
-  pub steps-to : p .steps ≤ 6
-  steps-to = steps-most p (tests p h .steps)
+  -- a good plan has one to six steps
+  pub steps-range : (1 ≤ p .steps) × (p .steps ≤ mostSteps)
+  unfolding stepsGood
+  steps-range = let t = both (leb 1 (p .steps)) _ (tests p h .steps) in (leb-true _ _ (t .0), leb-true _ _ (t .1))
 
   -- it starts on a date
   pub start-date : isDate (p .start) ≡ true
   unfolding datesGood
   start-date = both (isDate (p .start)) _ (tests p h .dates) .0
-
-  -- it ends on a date
-  pub end-date : isDate (p .end) ≡ true
-  unfolding datesGood
-  end-date = both (isDate (p .end)) _ (both (isDate (p .start)) _ (tests p h .dates) .1) .0
 
   -- what the word adds to the test of the dates
   extra-dates : extraDates p ≡ true
@@ -145,14 +127,13 @@ module _ (p : Plan) (h : isGood p ≡ true) where
       both (cond (hasExtra p) (eightDigits (p .first) && eightDigits (p .second)) true) _ (e .1) .1
 
   -- a width has eight digits at most
-  pub width-bound : (i : ℕ) → i < p .steps → widthAt p i ≤ 99999999
+  pub width-bound : (i : ℕ) → i < p .steps → widthAt p i ≤ mostNumber
   width-bound i k = leb-true _ _ (both (eightDigits (widthAt p i)) _ (every-at (pairGood p) (p .steps) i pairs-good k) .0)
 
-  -- and so has a price
-  pub price-bound : (i : ℕ) → i < p .steps → priceAt p i ≤ 99999999
-  price-bound i k = leb-true _ _ (both (eightDigits (widthAt p i)) _ (every-at (pairGood p) (p .steps) i pairs-good k) .1)
-
-  -- which is not 0
-  pub price-least : (i : ℕ) → i < p .steps → 1 ≤ priceAt p i
+  -- and so has a price, which is not 0
+  pub price-range : (i : ℕ) → i < p .steps → (1 ≤ priceAt p i) × (priceAt p i ≤ mostNumber)
   unfolding priced
-  price-least i k = leb-true 1 _ (every-at (hasPrice p) (p .steps) i (tests p h .prices) k)
+  price-range i k = (
+    leb-true 1 _ (every-at (hasPrice p) (p .steps) i (tests p h .prices) k),
+    leb-true _ _ (both (eightDigits (widthAt p i)) _ (every-at (pairGood p) (p .steps) i pairs-good k) .1),
+  )

@@ -4,7 +4,5 @@ pub mod Every
 pub mod Flags
 pub mod Force
 pub mod Good
-pub mod Priced
-pub mod Sums
 pub mod Tidy
 pub mod Walk

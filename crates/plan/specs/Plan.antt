@@ -1,6 +1,6 @@
 -- Document 01, "Plan record (Table C.1)": the fields of a plan, and which of them are read.
 use mathlib.Core.Bool.{Bool, cond, _||_}
-use mathlib.Core.List.{[], _∷_}
+use mathlib.Core.List.{List, [], _∷_}
 use Prim.Native.Nat.{ℕ}
 use lib.Dec.{ltb, eqb}
 use lib.ListN.{getD, replicate}
@@ -8,6 +8,13 @@ use Rattle.units.specs.declared.Hundredths.{Hundredths}
 use Rattle.units.specs.declared.TenThousandths.{TenThousandths}
 use Rattle.units.specs.Volume.{volume, price}
 use Rattle.plan.specs.declared.Plan.{Plan}
+
+-- "six pairs of volume 4 and price 4"
+abbrev pub mostSteps : ℕ
+mostSteps = 6
+
+abbrev pub six : {A : Type 0} → (ℕ → A) → List A
+six f = f 0 ∷ f 1 ∷ f 2 ∷ f 3 ∷ f 4 ∷ f 5 ∷ []
 
 -- volume and price of pair i, counted from 0
 abbrev pub widthAt : Plan → ℕ → ℕ
@@ -26,10 +33,10 @@ hasExtra p = eqb (cycleWord p) 4 || eqb (cycleWord p) 5
 
 -- "Pairs beyond n aren't read."
 abbrev pub keptWidth : Plan → ℕ → Hundredths
-keptWidth p i = cond (ltb i (p .steps)) (getD (p .widths) i (volume 0)) (volume 0)
+keptWidth p i = volume (cond (ltb i (p .steps)) (widthAt p i) 0)
 
 abbrev pub keptPrice : Plan → ℕ → TenThousandths
-keptPrice p i = cond (ltb i (p .steps)) (getD (p .prices) i (price 0)) (price 0)
+keptPrice p i = price (cond (ltb i (p .steps)) (priceAt p i) 0)
 
 -- "A plan is its read fields: two that agree there are the same plan." The same plan with zero in every field that is not read.
 unfoldable pub tidy : Plan → Plan
@@ -40,8 +47,8 @@ tidy p = record {
   word = cycleWord p;
   first = cond (hasExtra p) (p .first) 0;
   second = cond (hasExtra p) (p .second) 0;
-  widths = keptWidth p 0 ∷ keptWidth p 1 ∷ keptWidth p 2 ∷ keptWidth p 3 ∷ keptWidth p 4 ∷ keptWidth p 5 ∷ [];
-  prices = keptPrice p 0 ∷ keptPrice p 1 ∷ keptPrice p 2 ∷ keptPrice p 3 ∷ keptPrice p 4 ∷ keptPrice p 5 ∷ [];
+  widths = six (keptWidth p);
+  prices = six (keptPrice p);
 }
 
 -- no plan: all fields zero
@@ -53,6 +60,6 @@ noPlan = record {
   word = 0;
   first = 0;
   second = 0;
-  widths = replicate 6 (volume 0);
-  prices = replicate 6 (price 0);
+  widths = replicate mostSteps (volume 0);
+  prices = replicate mostSteps (price 0);
 }

@@ -8,7 +8,7 @@ use Rattle.plan.specs.declared.Plan.{Plan}
 use Rattle.answer.specs.declared.Answer.{Answer}
 use Rattle.answer.specs.declared.Answer.the-variants.{Accepted}
 use Rattle.answer.specs.Answer.{need, isAccepted}
-use Rattle.plan.specs.Plan.{widthAt, priceAt, cycleWord, hasExtra}
+use Rattle.plan.specs.Plan.{mostSteps, widthAt, priceAt, cycleWord, hasExtra}
 
 -- every k below n
 unfoldable pub every : (ℕ → Bool) → ℕ → Bool
@@ -17,15 +17,18 @@ every f (suc n) = every f n && f n
 
 -- "2, steps byte not 01 to 06"
 unfoldable pub stepsGood : Plan → Bool
-stepsGood p = leb 1 (p .steps) && leb (p .steps) 6
+stepsGood p = leb 1 (p .steps) && leb (p .steps) mostSteps
 
 -- "3, cycle word read and not 01 to 05"
 unfoldable pub wordGood : Plan → Bool
 wordGood p = ltb (p .steps) 2 || (leb 1 (p .word) && leb (p .word) 5)
 
 -- "4, a digit above 9 in a read field"; in writing, "4 for a number above 99,999,999"
+abbrev pub mostNumber : ℕ
+mostNumber = 99999999
+
 abbrev pub eightDigits : ℕ → Bool
-eightDigits x = leb x 99999999
+eightDigits x = leb x mostNumber
 
 abbrev pub pairGood : Plan → ℕ → Bool
 pairGood p i = eightDigits (widthAt p i) && eightDigits (priceAt p i)

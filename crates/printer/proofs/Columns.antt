@@ -10,7 +10,7 @@ use Rattle.answer.proofs.Tests.{cases}
 use Rattle.plan.specs.declared.Plan.{Plan}
 use Rattle.plan.specs.Plan.{hasExtra}
 use Rattle.plan.specs.Rules.{isGood}
-use Rattle.plan.proofs.Good.{steps-to}
+use Rattle.plan.proofs.Good.{steps-range}
 use Rattle.printer.specs.Line.{pairsFrom, numbersOf}
 use Rattle.printer.specs.Columns.{sixPairs, twelve, columnsOf, countOf}
 
@@ -31,20 +31,16 @@ unfolding columnsOf
 eighteen p = cases (hasExtra p) (λ e. rw e) (λ e. rw e)
 
 module _ (p : Plan) (h : isGood p ≡ true) where
-  pub count-least : 1 ≤ countOf p
+  pub count-range : (1 ≤ countOf p) × (countOf p ≤ 18)
   unfolding countOf
-  count-least = cases (hasExtra p) (λ e. rw e (omega arith)) (λ e. rw e (omega arith))
-
-  pub count-most : countOf p ≤ 18
-  unfolding countOf
-  count-most =
-      let m = steps-to p h in
-      cases (hasExtra p) (λ e. rw e (omega arith)) (λ e. rw e (omega arith))
+  count-range =
+      let m = steps-range p h .1 in
+      cases (hasExtra p) (λ e. rw e (omega arith, omega arith)) (λ e. rw e (omega arith, omega arith))
 
   pub numbers-first : take (countOf p) (columnsOf p) ≡ numbersOf p
   unfolding countOf columnsOf numbersOf
   numbers-first =
-      let m = steps-to p h in
+      let m = steps-range p h .1 in
       cases (hasExtra p)
       (λ e. rw (e, take-add 6 (2 * p .steps), pairs-first p [] (p .steps) m))
       (λ e. rw (e, take-add 4 (2 * p .steps), pairs-first p (0 ∷ 0 ∷ []) (p .steps) m))

@@ -9,6 +9,7 @@ ghost use Prim.Native.Nat.{_*_, _≤_, _<_};
 ghost use lib.ListN.{length};
 ghost use Rattle.text.specs.Decimal.{decimal, spaced, startingWith};
 ghost use Rattle.plan.specs.Rules.{isGood};
+ghost use Rattle.record.specs.Fields.{recordLength};
 ghost use Rattle.printer.specs.Line.{numbersOf, refusedWord, lineOf};
 ghost use Rattle.printer.specs.Records.{recordsIn, recordAt, linesOf};
 ghost use Rattle.printer.specs.Columns.{sixPairs, withExtra, withoutExtra, columnsOf, countOf};
@@ -150,14 +151,14 @@ pub fn line(s: &[u8], out: &mut [u8]) -> usize
 
 // Record i of those that stand one behind another in s; the last may be short.
 fn record_at(s: &[u8], i: usize) -> &[u8]
-    requires { ⌜ 66 * i < length (now s) ⌝ }
+    requires { ⌜ recordLength * i < length (now s) ⌝ }
     ensures { λ r. ⌜ now r ≡ recordAt (now (s .entry)) i ⌝ }
 {
-    let from = 66 * i;
-    if s.len() - from < 66 {
+    let from = record::LENGTH * i;
+    if s.len() - from < record::LENGTH {
         return &s[from..];
     }
-    let to = from + 66;
+    let to = from + record::LENGTH;
     &s[from..to]
 }
 
@@ -166,7 +167,7 @@ pub fn lines(s: &[u8], out: &mut [u8]) -> usize
     requires { ⌜ 378 * recordsIn (now s) ≤ length (now out) ⌝ }
     ensures { λ r. ⌜ (r ≡ length (linesOf (now (s .entry)))) × (r ≤ length (now (out .entry))) × (now (out .exit) ≡ startingWith (linesOf (now (s .entry))) (now (out .entry))) ⌝ }
 {
-    let count = (s.len() + 65) / 66;
+    let count = (s.len() + (record::LENGTH - 1)) / record::LENGTH;
     let mut i = 0;
     let mut at = 0;
     while i < count {

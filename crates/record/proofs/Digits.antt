@@ -4,28 +4,14 @@ use mathlib.Core.Bool.{Bool, true, false, cond, _&&_}
 use mathlib.Core.List.{[], _∷_}
 use Prim.Native.Nat.{ℕ, _+_, _*_, _/_, _%_, _≤_, _<_}
 use native.Mathlib.Omega.{arith}
-use lib.Dec.{ltb}
-use borrow.Author.Tests.{lt-ltb, ltb-true}
 use Rattle.calendar.proofs.Bools.{both}
-use Rattle.record.specs.Digits.{pairOf, byteOf, twoDigits, numberOf, quadOf, fourBytes}
-
--- one byte
-byte-pair : (x : ℕ) → x < 100 → pairOf (byteOf x) ≡ x
-byte-pair x h = omega arith
-
-byte-digits : (x : ℕ) → x < 100 → twoDigits (byteOf x) ≡ true
-unfolding twoDigits
-byte-digits x h = rw (lt-ltb (byteOf x / 16) 10 (omega arith), lt-ltb (byteOf x % 16) 10 (omega arith))
-
-digits : (b : ℕ) → twoDigits b ≡ true → (b / 16 < 10) × (b % 16 < 10)
-unfolding twoDigits
-digits b h = let d = both (ltb (b / 16) 10) _ h in (ltb-true _ _ (d .0), ltb-true _ _ (d .1))
-
-pair-byte : (b : ℕ) → twoDigits b ≡ true → (byteOf (pairOf b) ≡ b) × (pairOf b < 100)
-pair-byte b h = let d = digits b h in (omega arith, omega arith)
+use Rattle.digits.specs.Digits.{pairOf}
+use Rattle.digits.proofs.Digits.{byte-pair, byte-digits, pair-byte}
+use Rattle.plan.specs.Rules.{mostNumber}
+use Rattle.record.specs.Digits.{twoDigits, numberOf, quadOf, quadAt, fourBytes}
 
 -- a number of eight digits, by hundreds
-regroup : (x : ℕ) → x ≤ 99999999 → ((x / 1000000 % 100 * 100 + x / 10000 % 100) * 100 + x / 100 % 100) * 100 + x % 100 ≡ x
+regroup : (x : ℕ) → x ≤ mostNumber → ((x / 1000000 % 100 * 100 + x / 10000 % 100) * 100 + x / 100 % 100) * 100 + x % 100 ≡ x
 regroup x h =
     let top : x / 1000000 % 100 * 100 + x / 10000 % 100 ≡ x / 10000 = omega arith in
     let whole : x / 10000 * 100 + x / 100 % 100 ≡ x / 100 = omega arith in
@@ -37,28 +23,22 @@ apart : (a b c d : ℕ) → a < 100 → b < 100 → c < 100 → d < 100
 apart a b c d ha hb hc hd = (omega arith, omega arith, omega arith, omega arith)
 
 -- written and then read
-pub quad-back : (x : ℕ) → x ≤ 99999999 → quadOf (byteOf (x / 1000000 % 100)) (byteOf (x / 10000 % 100)) (byteOf (x / 100 % 100)) (byteOf (x % 100)) ≡ x
+pub quad-back : (x : ℕ) → x ≤ mostNumber → quadAt (fourBytes x) 0 ≡ x
 unfolding quadOf
 quad-back x h =
-    rw (
-      byte-digits (x / 1000000 % 100) (omega arith),
-      byte-digits (x / 10000 % 100) (omega arith),
-      byte-digits (x / 100 % 100) (omega arith),
-      byte-digits (x % 100) (omega arith),
-      byte-pair (x / 1000000 % 100) (omega arith),
-      byte-pair (x / 10000 % 100) (omega arith),
-      byte-pair (x / 100 % 100) (omega arith),
-      byte-pair (x % 100) (omega arith),
-    )
-    (regroup x h)
+    let a : x / 1000000 % 100 < 100 = omega arith in
+    let b : x / 10000 % 100 < 100 = omega arith in
+    let c : x / 100 % 100 < 100 = omega arith in
+    let d : x % 100 < 100 = omega arith in
+    rw (byte-digits _ a, byte-digits _ b, byte-digits _ c, byte-digits _ d, byte-pair _ a, byte-pair _ b, byte-pair _ c, byte-pair _ d) (regroup x h)
 
 -- a field that is a number has two digits in each byte
-good : (t : Bool) (x : ℕ) → cond t x 100000000 ≤ 99999999 → (t ≡ true) × (cond t x 100000000 ≡ x)
+good : (t : Bool) (x : ℕ) → cond t x 100000000 ≤ mostNumber → (t ≡ true) × (cond t x 100000000 ≡ x)
 good true x h = (refl, refl)
-good false x h = absurd (let z : 100000000 ≤ 99999999 = h in omega arith)
+good false x h = absurd (let z : 100000000 ≤ mostNumber = h in omega arith)
 
 -- read and then written
-pub quad-there : (a b c d : ℕ) → quadOf a b c d ≤ 99999999 → fourBytes (quadOf a b c d) ≡ a ∷ b ∷ c ∷ d ∷ []
+pub quad-there : (a b c d : ℕ) → quadOf a b c d ≤ mostNumber → fourBytes (quadOf a b c d) ≡ a ∷ b ∷ c ∷ d ∷ []
 unfolding quadOf
 quad-there a b c d h =
     let g = good (twoDigits a && (twoDigits b && (twoDigits c && twoDigits d))) (numberOf a b c d) h in

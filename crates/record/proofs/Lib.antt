@@ -1,6 +1,5 @@
 pub mod Accepted
 pub mod Bytes
 pub mod Digits
-pub mod Round
-pub mod Sums
+pub mod RoundTrips
 pub mod Writing

@@ -39,12 +39,6 @@ partOf First x y = x
 partOf Second x y = y
 partOf (Refused n) x y = []
 
--- the number of a refusal, 255 where there is none
-abbrev pub numberOf : Choice → ℕ
-numberOf First = 255
-numberOf Second = 255
-numberOf (Refused n) = n
-
 -- the reference that a choice hands back: the first or the second itself; on a refusal an empty part, r
 abbrev pub handed : Choice → RefT (List ℕ) → RefT (List ℕ) → RefT (List ℕ) → RefT (List ℕ)
 handed First x y r = x

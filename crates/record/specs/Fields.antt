@@ -1,14 +1,18 @@
 -- Document 01, "Plan record (Table C.1)": "Always 66 bytes ..: start 4, end 4, steps 1, cycle word 1, first extra field 4, second extra
 -- field 4, then six pairs of volume 4 and price 4."
 use mathlib.Core.Bool.{Bool, true, cond, not}
-use mathlib.Core.List.{List, [], _∷_, _++_}
-use Prim.Native.Nat.{ℕ, _+_, _-_, _/_}
+use mathlib.Core.List.{List, _∷_, _++_}
+use Prim.Native.Nat.{ℕ, _+_, _-_, _*_, _/_}
 use lib.Dec.{ltb}
 use lib.ListN.{getD}
 use Rattle.units.specs.Volume.{volume, price}
 use Rattle.plan.specs.declared.Plan.{Plan}
-use Rattle.plan.specs.Plan.{widthAt, priceAt, hasExtra}
+use Rattle.plan.specs.Plan.{six, widthAt, priceAt, hasExtra}
 use Rattle.record.specs.Digits.{quadAt, fourBytes}
+
+-- "Always 66 bytes"
+abbrev pub recordLength : ℕ
+recordLength = 66
 
 -- the fields of a record as it stands, read or not
 unfoldable pub fieldsOf : List ℕ → Plan
@@ -19,8 +23,8 @@ fieldsOf s = record {
   word = getD s 9 0;
   first = quadAt s 10;
   second = quadAt s 14;
-  widths = volume (quadAt s 18) ∷ volume (quadAt s 26) ∷ volume (quadAt s 34) ∷ volume (quadAt s 42) ∷ volume (quadAt s 50) ∷ volume (quadAt s 58) ∷ [];
-  prices = price (quadAt s 22) ∷ price (quadAt s 30) ∷ price (quadAt s 38) ∷ price (quadAt s 46) ∷ price (quadAt s 54) ∷ price (quadAt s 62) ∷ [];
+  widths = six (λ i. volume (quadAt s (18 + 8 * i)));
+  prices = six (λ i. price (quadAt s (22 + 8 * i)));
 }
 
 -- pair i in bytes: volume 4, price 4

@@ -1,4 +1,5 @@
 pub mod Digits
 pub mod Fields
 pub mod Record
+pub mod RoundTrips
 pub mod Choice

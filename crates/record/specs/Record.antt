@@ -10,7 +10,7 @@ use Rattle.plan.specs.declared.Plan.{Plan}
 use Rattle.plan.specs.Plan.{tidy, noPlan}
 use Rattle.plan.specs.Rules.{verdict}
 use Rattle.record.specs.declared.Reading.{Reading}
-use Rattle.record.specs.Fields.{fieldsOf, bytesOf, byteRead}
+use Rattle.record.specs.Fields.{recordLength, fieldsOf, bytesOf, byteRead}
 
 -- the answer, with the plan's read fields where it accepts and no plan where it refuses
 abbrev pub readingOf : Plan → Answer → Reading
@@ -18,11 +18,11 @@ readingOf p a = record { plan = cond (isAccepted a) (tidy p) noPlan; answer = a 
 
 -- "Read a plan: 1, length not 66", then 2 to 7
 unfoldable pub readOf : List ℕ → Reading
-readOf s = readingOf (fieldsOf s) (need (eqb (length s) 66) 1 (verdict (fieldsOf s)))
+readOf s = readingOf (fieldsOf s) (need (eqb (length s) recordLength) 1 (verdict (fieldsOf s)))
 
 -- "Write a plan: 26, buffer not 66 bytes; then 2 to 7"
 unfoldable pub writeAnswer : Plan → List ℕ → Answer
-writeAnswer p out = need (eqb (length out) 66) 26 (verdict p)
+writeAnswer p out = need (eqb (length out) recordLength) 26 (verdict p)
 
 -- what the buffer holds then: the read fields, and zero in the bytes that are not read; on a refusal it stands as before
 unfoldable pub written : Plan → List ℕ → List ℕ

@@ -6,13 +6,16 @@ use units::Hundredths;
 use units::TenThousandths;
 ghost use mathlib.Core.Path.{_≡_};
 ghost use mathlib.Core.List.{_++_};
-ghost use Prim.Native.Nat.{_+_, _≤_, _<_};
+ghost use Prim.Native.Nat.{_+_, _≤_};
 ghost use lib.ListN.{length};
 ghost use lib.Seq.{sets};
-ghost use Rattle.record.specs.Digits.{pairOf, byteOf, twoDigits, numberOf, quadOf, quadAt, fourBytes};
-ghost use Rattle.record.specs.Fields.{fieldsOf, bytesOf};
+ghost use Rattle.record.specs.Digits.{numberOf, quadOf, quadAt, fourBytes};
+ghost use Rattle.record.specs.Fields.{recordLength, fieldsOf, bytesOf};
 ghost use Rattle.record.specs.Record.{readingOf, readOf, writeAnswer, written};
-ghost use Rattle.record.specs.Choice.{which, choiceOf, partOf, numberOf as refusalOf, handed};
+ghost use Rattle.record.specs.Choice.{which, choiceOf, partOf, handed};
+
+// The bytes of a record.
+pub const LENGTH: usize = 66;
 
 // A plan that was read, all zero where it is refused.
 pub struct Reading {
@@ -27,39 +30,20 @@ pub enum Choice {
     Refused(u8),
 }
 
-// The number of a byte's two digits.
-fn pair(b: u8) -> u32
-    ensures { λ r. ⌜ r ≡ pairOf b ⌝ }
-{
-    (b as u32) / 16 * 10 + (b as u32) % 16
-}
-
-// Whether neither digit is above 9.
-fn two_digits(b: u8) -> bool
-    ensures { λ r. ⌜ r ≡ twoDigits b ⌝ }
-{
-    b / 16 < 10 && b % 16 < 10
-}
-
 // The number of four bytes.
 fn number(a: u8, b: u8, c: u8, d: u8) -> u32
     ensures { λ r. ⌜ r ≡ numberOf a b c d ⌝ }
 {
-    ((pair(a) * 100 + pair(b)) * 100 + pair(c)) * 100 + pair(d)
+    ((digits::pair(a) * 100 + digits::pair(b)) * 100 + digits::pair(c)) * 100 + digits::pair(d)
 }
 
 // The field of four bytes: its number, or 100,000,000 where a digit is above 9.
 fn quad(a: u8, b: u8, c: u8, d: u8) -> u32
     ensures { λ r. ⌜ r ≡ quadOf a b c d ⌝ }
 {
-    if two_digits(a) {
-        if two_digits(b) {
-            if two_digits(c) {
-                if two_digits(d) {
-                    return number(a, b, c, d);
-                }
-            }
-        }
+    let low = digits::two_digits(c) & digits::two_digits(d);
+    if digits::two_digits(a) & (digits::two_digits(b) & low) {
+        return number(a, b, c, d);
     }
     100_000_000
 }
@@ -74,7 +58,7 @@ fn quad_at(s: &[u8], at: usize) -> u32
 
 // The fields of a record as it stands.
 fn fields_of(s: &[u8]) -> Plan
-    requires { ⌜ length (now s) ≡ 66 ⌝ }
+    requires { ⌜ length (now s) ≡ recordLength ⌝ }
     ensures { λ r. ⌜ r ≡ fieldsOf (now (s .entry)) ⌝ }
 {
     Plan {
@@ -123,19 +107,11 @@ fn answered(p: Plan, a: Answer) -> Reading
 pub fn read(s: &[u8]) -> Reading
     ensures { λ r. ⌜ r ≡ readOf (now (s .entry)) ⌝ }
 {
-    if s.len() != 66 {
+    if s.len() != LENGTH {
         return answered(Plan::none(), Answer::Refused(1));
     }
     let p = fields_of(s);
     answered(p, p.vet())
-}
-
-// The byte of a number's two digits.
-fn bcd(x: u64) -> u8
-    requires { ⌜ x < 100 ⌝ }
-    ensures { λ r. ⌜ r ≡ byteOf x ⌝ }
-{
-    (x / 10 * 16 + x % 10) as u8
 }
 
 // Writes a number of eight digits into the four bytes that begin at byte `at`.
@@ -143,10 +119,10 @@ fn put_quad(x: u64, at: usize, out: &mut [u8])
     requires { ⌜ at + 4 ≤ length (now out) ⌝ }
     ensures { λ _. ⌜ now (out .exit) ≡ sets (now (out .entry)) at (fourBytes x) ⌝ }
 {
-    out[at] = bcd(x / 1_000_000 % 100);
-    out[at + 1] = bcd(x / 10_000 % 100);
-    out[at + 2] = bcd(x / 100 % 100);
-    out[at + 3] = bcd(x % 100);
+    out[at] = digits::bcd(x / 1_000_000 % 100);
+    out[at + 1] = digits::bcd(x / 10_000 % 100);
+    out[at + 2] = digits::bcd(x / 100 % 100);
+    out[at + 3] = digits::bcd(x % 100);
 }
 
 // Writes two numbers, one behind the other, into the eight bytes that begin at byte `at`.
@@ -160,7 +136,7 @@ fn put_two(x: u64, y: u64, at: usize, out: &mut [u8])
 
 // Fills a buffer with the bytes of a plan, every field of it.
 fn put(p: Plan, out: &mut [u8])
-    requires { ⌜ length (now out) ≡ 66 ⌝ }
+    requires { ⌜ length (now out) ≡ recordLength ⌝ }
     ensures { λ _. ⌜ now (out .exit) ≡ bytesOf p ⌝ }
 {
     put_two(p.start as u64, p.end as u64, 0, out);
@@ -168,7 +144,7 @@ fn put(p: Plan, out: &mut [u8])
     out[9] = p.word;
     put_two(p.first as u64, p.second as u64, 10, out);
     let mut i = 0;
-    while i < 6 {
+    while i < Plan::MOST_STEPS {
         let width = p.widths[i];
         let price = p.prices[i];
         put_two(width.0 as u64, price.0, 18 + 8 * i, out);
@@ -181,7 +157,7 @@ fn put(p: Plan, out: &mut [u8])
 pub fn write(p: Plan, out: &mut [u8]) -> Answer
     ensures { λ r. ⌜ (r ≡ writeAnswer p (now (out .entry))) × (now (out .exit) ≡ written p (now (out .entry))) ⌝ }
 {
-    if out.len() != 66 {
+    if out.len() != LENGTH {
         return Answer::Refused(26);
     }
     let a = p.vet();
@@ -239,25 +215,10 @@ pub fn pick<'a>(first: &'a [u8], second: &'a [u8], c: Choice) -> &'a [u8]
     }
 }
 
-// The number of a refusal, 255 where there is none.
-fn refusal_of(c: Choice) -> u8
-    ensures { λ r. ⌜ r ≡ refusalOf c ⌝ }
-{
-    match c {
-        Choice::First => 255,
-        Choice::Second => 255,
-        Choice::Refused(n) => n,
-    }
-}
-
-// The record in force on a date; or an empty part, with the refusal's number in `refusal`, which is
-// 255 where there is none.
-pub fn in_force<'a>(first: &'a [u8], second: &'a [u8], date: u32, refusal: &mut u8) -> &'a [u8]
+// The record in force on a date, an empty part where `choose` refuses.
+pub fn in_force<'a>(first: &'a [u8], second: &'a [u8], date: u32) -> &'a [u8]
     ensures { λ r. ⌜ (r ≡ handed (choiceOf (now (first .entry)) (now (second .entry)) date) (first .entry) (second .entry) r)
-        × (now r ≡ partOf (choiceOf (now (first .entry)) (now (second .entry)) date) (now (first .entry)) (now (second .entry)))
-        × (now (refusal .exit) ≡ refusalOf (choiceOf (now (first .entry)) (now (second .entry)) date)) ⌝ }
+        × (now r ≡ partOf (choiceOf (now (first .entry)) (now (second .entry)) date) (now (first .entry)) (now (second .entry))) ⌝ }
 {
-    let c = choose(first, second, date);
-    *refusal = refusal_of(c);
-    pick(first, second, c)
+    pick(first, second, choose(first, second, date))
 }

@@ -18,20 +18,11 @@ loop-holds : tie.Need-loop-holds Inv-loop μ-loop
 unfolding daysOfMonths
 loop-holds c = omega arith
 
-days-in-requires : tie.Need-days-in-requires Inv-loop μ-loop
-days-in-requires c κs = search needs
-
 add-n : tie.Need-add-n Inv-loop μ-loop
 add-n c =
     let k = c .before .before .loop .k in
     let y = c .before .before .before .args .y in
     omega (arith, months-more y k (c .before .before .loop .inv .0), months-bound y k)
-
-add-k : tie.Need-add-k Inv-loop μ-loop
-add-k c = search needs
-
-loop-less : tie.Need-loop-less Inv-loop μ-loop
-loop-less c = search needs
 
 loop-again : tie.Need-loop-again Inv-loop μ-loop
 loop-again c =
@@ -46,4 +37,4 @@ returns c = let e : c .before .loop .k ≡ c .before .before .args .m = omega ar
 pub days-before-spec : {M : Type 1} → statement M
 days-before-spec =
     tie.close
-    (tie.spec Inv-loop μ-loop loop-holds days-in-requires add-n add-k loop-less loop-again returns)
+    (tie.spec Inv-loop μ-loop loop-holds (search needs) add-n (search needs) (search needs) loop-again returns)

@@ -4,9 +4,6 @@ use Rattle.calendar.specs.Date.{isLeap}
 use Rattle.calendar.proofs.is_leap.Statement.{statement}
 use Rattle.calendar.proofs.is_leap.Tie as tie
 
-returns : tie.Need-returns
-unfolding isLeap
-returns c = refl
-
 pub is-leap-spec : {M : Type 1} → statement M
-is-leap-spec = tie.close (tie.spec returns)
+unfolding isLeap
+is-leap-spec = tie.close (tie.spec (λ c. refl))

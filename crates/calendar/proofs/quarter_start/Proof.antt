@@ -7,19 +7,14 @@ use borrow.Author.Needs.{needs}
 use Rattle.calendar.proofs.quarter_start.Statement.{statement}
 use Rattle.calendar.proofs.quarter_start.Tie as tie
 
-mul-result-2 : tie.Need-mul-result-2
-mul-result-2 c = omega (arith, quarter-month-bound (monthOf (c .before .args .d)))
-
-add-result : tie.Need-add-result
-add-result c = omega (arith, quarter-month-bound (monthOf (c .before .args .d)))
-
-add-result-2 : tie.Need-add-result-2
-add-result-2 c = omega (arith, quarter-month-bound (monthOf (c .before .args .d)))
-
-returns : tie.Need-returns
-unfolding quarterStart
-returns c = rw (c .quarter-month .ensures)
-
 pub quarter-start-spec : {M : Type 1} → statement M
+unfolding quarterStart
 quarter-start-spec =
-    tie.close (tie.spec (search needs) (search needs) mul-result-2 add-result add-result-2 returns)
+    tie.close
+    (tie.spec
+    (search needs)
+    (search needs)
+    (λ c. omega (arith, quarter-month-bound (monthOf (c .before .args .d))))
+    (λ c. omega (arith, quarter-month-bound (monthOf (c .before .args .d))))
+    (λ c. omega (arith, quarter-month-bound (monthOf (c .before .args .d))))
+    (λ c. rw (c .quarter-month .ensures)))

@@ -8,13 +8,10 @@ use borrow.Author.Needs.{needs}
 use Rattle.calendar.proofs.run_of.Statement.{statement}
 use Rattle.calendar.proofs.run_of.Tie as tie
 
-returns : tie.Need-returns
-returns c = rw (run-before _ _ _ (c .if1 .taken))
-
 sub-result : tie.Need-sub-result
 sub-result c =
     let s = c .before .before .before in
-    omega (arith, number-keeps (s .args .first) (s .args .d) (s .pre .0) (s .pre .1 .0) (c .before .before .if1 .left))
+    omega (arith, number-keeps (s .args .first) (s .args .d) (s .pre .0) (c .before .before .if1 .left))
 
 add-result : tie.Need-add-result
 add-result c =
@@ -22,18 +19,14 @@ add-result c =
     let since = c .before .day-number .result - c .day-number2 .result in
     omega (arith, number-bound (s .args .d) (s .pre .1 .0), div-le-self since (s .args .n))
 
-returns-2 : tie.Need-returns-2
-returns-2 c =
-    rw (run-from _ _ _ (c .before .before .if1 .left), c .before .day-number .ensures, c .day-number2 .ensures)
-
 pub run-of-spec : {M : Type 1} → statement M
 run-of-spec =
     tie.close
     (tie.spec
-    returns
+    (λ c. rw (run-before _ _ _ (c .if1 .taken)))
     (λ c κs. search needs)
     (λ c κs. search needs)
     sub-result
     (λ c. search needs)
     add-result
-    returns-2)
+    (λ c. rw (run-from _ _ _ (c .before .before .if1 .left), c .before .day-number .ensures, c .day-number2 .ensures)))

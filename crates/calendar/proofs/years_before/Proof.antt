@@ -5,8 +5,5 @@ use borrow.Author.Needs.{needs}
 use Rattle.calendar.proofs.years_before.Statement.{statement}
 use Rattle.calendar.proofs.years_before.Tie as tie
 
-returns : tie.Need-returns
-returns c = sym (years-before (c .args .k))
-
 pub years-before-spec : {M : Type 1} → statement M
-years-before-spec = tie.close (tie.spec (search needs) (search needs) (search needs) returns)
+years-before-spec = tie.close (tie.spec (search needs) (search needs) (search needs) (λ c. sym (years-before (c .args .k))))

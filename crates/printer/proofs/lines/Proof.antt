@@ -32,26 +32,8 @@ record-at-requires c κs =
     let l = c .before in
     record-begins (l .before .before .before .args .s .now) (l .loop .i) (rw (← l .loop .inv .1) (c .loop-test .taken))
 
-sub-line : tie.Need-sub-line Inv-loop μ-loop
-sub-line c = search needs
-
-part-line-start : tie.Need-part-line-start Inv-loop μ-loop
-part-line-start c = search needs
-
-part-line-end : tie.Need-part-line-end Inv-loop μ-loop
-part-line-end c = search needs
-
 line-requires : tie.Need-line-requires Inv-loop μ-loop
 line-requires c κs = simp (length-take, length-drop) (omega arith)
-
-add-at : tie.Need-add-at Inv-loop μ-loop
-add-at c = search needs
-
-add-i : tie.Need-add-i Inv-loop μ-loop
-add-i c = search needs
-
-loop-less : tie.Need-loop-less Inv-loop μ-loop
-loop-less c = search needs
 
 loop-again : tie.Need-loop-again Inv-loop μ-loop
 loop-again c =
@@ -81,16 +63,17 @@ lines-spec =
     (tie.spec
     Inv-loop
     μ-loop
+    (search needs)
     add-count
     loop-holds
     record-at-requires
-    sub-line
-    part-line-start
-    part-line-end
+    (search needs)
+    (search needs)
+    (search needs)
     line-requires
-    add-at
-    add-i
-    loop-less
+    (search needs)
+    (search needs)
+    (search needs)
     loop-again
     same-length
     returns)

@@ -4,7 +4,7 @@ use native.Mathlib.Omega.{arith}
 use lib.ListN.{take}
 use lib.Seq.{length-take-le}
 use Rattle.printer.specs.Line.{numbersOf}
-use Rattle.printer.proofs.Columns.{eighteen, count-least, count-most, numbers-first}
+use Rattle.printer.proofs.Columns.{eighteen, count-range, numbers-first}
 use borrow.Author.Needs.{needs}
 use Rattle.printer.proofs.plan_line.Statement.{statement}
 use Rattle.printer.proofs.plan_line.Tie as tie
@@ -12,7 +12,7 @@ use Rattle.printer.proofs.plan_line.Tie as tie
 array-share-prefix-v : tie.Need-array-share-prefix-v
 array-share-prefix-v c =
     let a = c .before .before .before in
-    rw (c .count-of .ensures, c .before .columns-of .ensures, eighteen (a .args .p)) (count-most (a .args .p) (a .pre .0))
+    rw (c .count-of .ensures, c .before .columns-of .ensures, eighteen (a .args .p)) (count-range (a .args .p) (a .pre .0) .1)
 
 slice-aggregate-put-numbers : tie.Need-slice-aggregate-put-numbers
 slice-aggregate-put-numbers c = sym (length-take-le _ _ (array-share-prefix-v (c .before)))
@@ -21,8 +21,7 @@ put-numbers-requires : tie.Need-put-numbers-requires
 put-numbers-requires c κs =
     let n = c .before .before in
     let a = n .before .before .before in
-    let least = count-least (a .args .p) (a .pre .0) in
-    let most = count-most (a .args .p) (a .pre .0) in
+    let range = count-range (a .args .p) (a .pre .0) in
     rw (length-take-le _ _ (array-share-prefix-v n), n .count-of .ensures) (omega arith, omega arith)
 
 returns : tie.Need-returns
@@ -32,7 +31,7 @@ returns c =
     let h = n .before .before .before .pre .0 in
     let r = c .before .before .put-numbers .ensures in
     let t : take (n .count-of .result) (n .before .columns-of .result) ≡ numbersOf p = rw (n .count-of .ensures, n .before .columns-of .ensures) (numbers-first p h) in
-    let most = count-most p h in
+    let most = count-range p h .1 in
     let bound = rw (length-take-le _ _ (array-share-prefix-v n), n .count-of .ensures) at (r .1) in
     (rw t at (r .0), omega arith, rw t at (r .3))
 

@@ -4,9 +4,6 @@ use Rattle.plan.specs.Plan.{noPlan}
 use Rattle.plan.proofs.Plan.none.Statement.{statement}
 use Rattle.plan.proofs.Plan.none.Tie as tie
 
-returns : tie.Need-returns
-unfolding noPlan
-returns c = refl
-
 pub none-spec : {M : Type 1} → statement M
-none-spec = tie.close (tie.spec returns)
+unfolding noPlan
+none-spec = tie.close (tie.spec (λ c. refl))
