@@ -2,7 +2,7 @@
 -- one refusal number .., and a refusal changes nothing".
 use mathlib.Core.Path.{_≡_}
 use mathlib.Core.List.{List, [], _++_}
-use Prim.Native.Nat.{ℕ}
+use Prim.Native.Nat.{ℕ, _≤_}
 use lib.ListN.{length}
 use Rattle.answer.specs.declared.Answer.{Answer}
 use Rattle.answer.specs.declared.Answer.the-variants.{Accepted, Refused}
@@ -44,6 +44,13 @@ left w m c = stateBy (refusalOf w m c) m (after w m c)
 
 unfoldable pub given : World → State → Call → List ℕ
 given w m c = codesBy (refusalOf w m c) (codesAfter w m c)
+
+-- the most codes that a call gives: 2E, 2F, 12, 30 and 33
+abbrev pub mostCodes : ℕ
+mostCodes = 5
+
+abbrev pub FewCodes : World → Type 0
+FewCodes w = (m : State) (c : Call) → length (given w m c) ≤ mostCodes
 
 -- the state of a meter as the code keeps it: the machine's registers, and the words of the held records
 abbrev pub meterOf : Machine → List ℕ → Meter
