@@ -81,7 +81,7 @@ module _ (w : World) where
 
 module _ (w : World) (L : Laws w) where
   -- a load
-  load-state : (m : State) (k : ℕ) (r : Reading) → Loads w L (m .slots) (m .clock .date) k r → w .good (r .plan) ≡ true → Parts w m →
+  load-state : (m : State) (k : ℕ) (r : Reading) → Loads w (m .slots) (m .clock .date) k r → w .good (r .plan) ≡ true → Parts w m →
       Parts w (withSlots m (loaded (m .slots) k (r .plan)))
   unfolding loaded
   load-state m k r l y i =
@@ -113,7 +113,7 @@ module _ (w : World) (L : Laws w) where
   }
   effect-state m (load c bytes) h i =
       let t = turn w m (c .stamp) in
-      let l = loads w L (t .slots) (t .clock .date) (c .slot) (readOf bytes) (turn-load w m (c .stamp) (c .slot) (readOf bytes) ∙ h) in
+      let l = loads w (t .slots) (t .clock .date) (c .slot) (readOf bytes) (turn-load w m (c .stamp) (c .slot) (readOf bytes) ∙ h) in
       load-state t (c .slot) (readOf bytes) l (L .read-good bytes (l .read)) i
   effect-state m (alarms a) h i = record {
     volumes = i .volumes;

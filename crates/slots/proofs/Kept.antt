@@ -101,6 +101,21 @@ module _ (w : World) where
   unfolding used
   slots-used s b d n total a = record { one = a .one; two = a .two; apart = a .apart; usage = used-low b (s .usage .0) n total (a .usage) }
 
+  -- a load: the slot's old plan is not in force on the date, and the new one and the other slot's never both from it on
+  pub record Loads (s : Slots) (d k : ℕ) (r : Reading) : Type 0 where
+    pub slot : (eqb k 1 || eqb k 2) ≡ true
+    pub read : r .answer ≡ Accepted
+    pub free : inSlot w (slotAt s k) d ≡ false
+    pub alone : meetsSlot w (otherAt s k) (r .plan) d ≡ false
+
+  pub loads : (s : Slots) (d k : ℕ) (r : Reading) → loadRefusal w s d k r ≡ Accepted → Loads s d k r
+  unfolding loadRefusal
+  loads s d k r h =
+      let n = need-both {b = eqb k 1 || eqb k 2} 10 h in
+      let a = next-both (n .1) in
+      let b = need-both 11 (a .1) in
+      record { slot = n .0; read = a .0; free = not-true _ (b .0); alone = not-true _ (need-both 12 {a = Accepted} (b .1) .0) }
+
 module _ (w : World) (L : Laws w) where
   -- the turn
   apart-later : (a b : Slot) (d e : ℕ) → d ≤ e → apart w a b d ≡ true → apart w a b e ≡ true
@@ -137,19 +152,7 @@ module _ (w : World) (L : Laws w) where
       (λ j. rw (plan-two w s d i j) (omega (arith, slot-cap (s .two) d (s .usage .0) n (a .two) j)))
       (λ j. rw (plan-none w s d i j) (omega arith)))
 
-  -- a load: the slot's old plan is not in force on the date, and the new one and the other slot's never both from it on
-  pub record Loads (s : Slots) (d k : ℕ) (r : Reading) : Type 0 where
-    pub read : r .answer ≡ Accepted
-    pub free : inSlot w (slotAt s k) d ≡ false
-    pub alone : meetsSlot w (otherAt s k) (r .plan) d ≡ false
-
-  pub loads : (s : Slots) (d k : ℕ) (r : Reading) → loadRefusal w s d k r ≡ Accepted → Loads s d k r
-  unfolding loadRefusal
-  loads s d k r h =
-      let a = next-both (need-both {b = eqb k 1 || eqb k 2} 10 h .1) in
-      let b = need-both 11 (a .1) in
-      record { read = a .0; free = not-true _ (b .0); alone = not-true _ (need-both 12 {a = Accepted} (b .1) .0) }
-
+  -- a load
   slot-held : (p : Plan) → w .good p ≡ true → slotGood w (holding p) ≡ true
   unfolding slotGood
   slot-held p h = h
@@ -162,14 +165,14 @@ module _ (w : World) (L : Laws w) where
   unfolding apart
   apart-second s p d h = rw h
 
-  pub slots-loaded : (s : Slots) (d total k : ℕ) (r : Reading) → Loads s d k r → w .good (r .plan) ≡ true → Apart w s d total → Apart w (loaded s k (r .plan)) d total
+  pub slots-loaded : (s : Slots) (d total k : ℕ) (r : Reading) → Loads w s d k r → w .good (r .plan) ≡ true → Apart w s d total → Apart w (loaded s k (r .plan)) d total
   unfolding loaded
   slots-loaded s d total k r l y a = cases (eqb k 1)
       (λ e. rw e (record { one = slot-held (r .plan) y; two = a .two; apart = apart-first (s .two) (r .plan) d (rw e at (l .alone)); usage = a .usage }))
       (λ e. rw e (record { one = a .one; two = slot-held (r .plan) y; apart = apart-second (s .one) (r .plan) d (rw e at (l .alone)); usage = a .usage }))
 
   -- none is in force after it only where none was before it
-  pub none-loaded : (s : Slots) (d k : ℕ) (r : Reading) → Loads s d k r → someForce w (loaded s k (r .plan)) d ≡ false → someForce w s d ≡ false
+  pub none-loaded : (s : Slots) (d k : ℕ) (r : Reading) → Loads w s d k r → someForce w (loaded s k (r .plan)) d ≡ false → someForce w s d ≡ false
   unfolding loaded
   none-loaded s d k r l f = cases (eqb k 1)
       (λ e. both-none w s d (rw e at (l .free)) (none-two w _ d (rw e at f)))
