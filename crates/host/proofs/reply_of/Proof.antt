@@ -4,9 +4,7 @@ use Rattle.host.specs.Replies.{replyOf, verdictOf}
 use Rattle.host.proofs.reply_of.Statement.{statement}
 use Rattle.host.proofs.reply_of.Tie as tie
 
-returns : tie.Need-returns
-unfolding replyOf verdictOf
-returns c = rw (c .before .verdict-of .ensures)
-
 pub reply-of-spec : {M : Type 1} → statement M
-reply-of-spec = tie.close (tie.spec (search needs) returns)
+unfolding replyOf verdictOf
+reply-of-spec =
+    tie.close (tie.spec (search needs) (λ c. rw (c .before .verdict-of .ensures)))

@@ -4,9 +4,7 @@ use Rattle.host.specs.Replies.{planReplyOf, verdictOf}
 use Rattle.host.proofs.plans.harpdapple_plan_read.Statement.{statement}
 use Rattle.host.proofs.plans.harpdapple_plan_read.Tie as tie
 
-returns : tie.Need-returns
-unfolding planReplyOf verdictOf
-returns c = rw (c .before .verdict-of .ensures, ← c .before .before .read .ensures)
-
 pub harpdapple-plan-read-spec : {M : Type 1} → statement M
-harpdapple-plan-read-spec = tie.close (tie.spec (search needs) (search needs) returns)
+unfolding planReplyOf verdictOf
+harpdapple-plan-read-spec =
+    tie.close (tie.spec (search needs) (search needs) (λ c. rw (c .before .verdict-of .ensures, ← c .before .before .read .ensures)))

@@ -4,13 +4,9 @@ use borrow.Author.Needs.{needs}
 use Rattle.host.proofs.queries.display_reply.Statement.{statement}
 use Rattle.host.proofs.queries.display_reply.Tie as tie
 
-returns : tie.Need-returns
-unfolding displayReplyOf
-returns c = rw (← c .before .before .before .display .ensures, c .before .a .given .1)
-
-returns-2 : tie.Need-returns-2
-unfolding displayReplyOf
-returns-2 c = rw (← c .before .before .before .display .ensures, c .before .a2 .given .1)
-
 pub display-reply-spec : {M : Type 1} → statement M
-display-reply-spec = tie.close (tie.spec (search needs) (search needs) (search needs) returns returns-2)
+unfolding displayReplyOf
+display-reply-spec =
+    tie.close (tie.spec (search needs) (search needs) (search needs)
+    (λ c. rw (← c .before .before .before .display .ensures, c .before .a .given .1))
+    (λ c. rw (← c .before .before .before .display .ensures, c .before .a2 .given .1)))

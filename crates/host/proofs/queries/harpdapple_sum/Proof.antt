@@ -48,9 +48,9 @@ use Rattle.query.proofs.sum_with.Symbol as with
 use Rattle.query.proofs.sum_with.Met as with-thm
 use Rattle.host.specs.declared.SumReply.{SumReply}
 use Rattle.host.specs.Replies.{sumReplyOf}
-use Rattle.host.proofs.Kind.{rowOf, mirOf, mach, told, copied, Param, number, struct}
+use Rattle.host.proofs.Kind.{rowOf, mirOf, mach, told, copied, Param, number}
 use Rattle.host.proofs.Called.{Promise, Walk, Asks, Ends, asked, called, recalled, exits, met}
-use Rattle.host.proofs.Structs.{day-record, hundredths, sum-reply, summed}
+use Rattle.host.proofs.Structs.{day-record, hundredths as volume, sum-reply as answer, summed}
 use Rattle.host.proofs.queries.sum_reply.Symbol as reply
 use Rattle.host.proofs.queries.sum_reply.Met as reply-thm
 use Rattle.host.proofs.queries.harpdapple_sum.Key as key
@@ -72,12 +72,6 @@ tail (call g xs d) = skipᴹ
 
 abbrev word : Param
 word = number w64
-
-abbrev volume : Param
-volume = struct hundredths
-
-abbrev answer : Param
-answer = struct sum-reply
 
 abbrev slice : Ty
 slice = sliceTy (tyRef (named 0) imm (pointee (rowOf day-record .written)))

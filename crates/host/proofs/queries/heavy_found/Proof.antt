@@ -4,14 +4,9 @@ use borrow.Author.Needs.{needs}
 use Rattle.host.proofs.queries.heavy_found.Statement.{statement}
 use Rattle.host.proofs.queries.heavy_found.Tie as tie
 
-returns : tie.Need-returns
-unfolding heavyReplyOf
-returns c = rw (c .before .a .given .1)
-
-returns-2 : tie.Need-returns-2
-unfolding heavyReplyOf
-returns-2 c = rw (c .before .before .a2 .given .1, c .none .ensures)
-
 pub heavy-found-spec : {M : Type 1} → statement M
+unfolding heavyReplyOf
 heavy-found-spec =
-    tie.close (tie.spec (search needs) (search needs) (search needs) returns returns-2)
+    tie.close (tie.spec (search needs) (search needs) (search needs)
+    (λ c. rw (c .before .a .given .1))
+    (λ c. rw (c .before .before .a2 .given .1, c .none .ensures)))
