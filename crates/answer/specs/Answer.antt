@@ -16,3 +16,8 @@ next (Refused n) k = Refused n
 abbrev pub isAccepted : Answer → Bool
 isAccepted Accepted = true
 isAccepted (Refused n) = false
+
+-- the number that refuses; 0 where the answer accepts
+abbrev pub numberOf : Answer → ℕ
+numberOf Accepted = 0
+numberOf (Refused n) = n

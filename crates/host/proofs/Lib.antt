@@ -1,8 +1,7 @@
-pub mod Called
 pub mod Kind
+pub mod Called
 pub mod Parted
 pub mod Lent
-pub mod LentSlice
-pub mod Metered
 pub mod Seen
-pub mod Sums
+pub mod Structs
+pub mod Metered

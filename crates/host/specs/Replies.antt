@@ -1,12 +1,12 @@
 -- How the flat structs of the C library hold document 01's answers: `accepted`, else the refusal's number; what is not answered is 0.
 use mathlib.Core.Path.{_≡_}
-use mathlib.Core.Bool.{Bool, true, false, cond}
-use Prim.Native.Nat.{ℕ, _+_}
-use lib.Dec.{leb}
+use mathlib.Core.Bool.{true, false}
+use Prim.Native.Nat.{ℕ}
 use lib.IntN.{pos}
 use Rattle.answer.specs.declared.Answer.{Answer}
-use Rattle.answer.specs.declared.Answer.the-variants.{Accepted, Refused}
+use Rattle.answer.specs.Answer.{isAccepted, numberOf}
 use Rattle.records.specs.declared.Record.{Record}
+use Rattle.records.specs.Records.{noRecord}
 use Rattle.records.specs.declared.Fetched.{Fetched}
 use Rattle.records.specs.declared.Fetched.the-variants.{Held, Refused as NotHeld}
 use Rattle.records.specs.declared.Heavy.{Heavy}
@@ -32,20 +32,11 @@ use Rattle.host.specs.declared.SumReply.{SumReply}
 use Rattle.host.specs.declared.PlanReply.{PlanReply}
 use Rattle.host.specs.declared.PartReply.{PartReply}
 
--- whether an answer accepts, and its refusal's number
-abbrev pub accepts : Answer → Bool
-accepts Accepted = true
-accepts (Refused n) = false
-
-abbrev pub number : Answer → ℕ
-number Accepted = 0
-number (Refused n) = n
-
 unfoldable pub replyOf : Done → Reply
-replyOf d = record { accepted = accepts (d .answer); refusal = number (d .answer); codes = d .codes }
+replyOf d = record { accepted = isAccepted (d .answer); refusal = numberOf (d .answer); codes = d .codes }
 
 unfoldable pub verdictOf : Answer → Verdict
-verdictOf a = record { accepted = accepts a; refusal = number a }
+verdictOf a = record { accepted = isAccepted a; refusal = numberOf a }
 
 unfoldable pub stepReplyOf : Stepped → StepReply
 stepReplyOf (At s) = record { accepted = true; refusal = 0; step = s }
@@ -55,16 +46,20 @@ unfoldable pub displayReplyOf : Displayed → DisplayReply
 displayReplyOf (Shows s) = record { accepted = true; refusal = 0; shown = s }
 displayReplyOf (Dark n) = record { accepted = false; refusal = n; shown = record { 0 = pos 0 } }
 
-unfoldable pub noRecord : Record
-noRecord = record { date = 0; volume = record { 0 = 0 }; charge = record { 0 = 0 }; closing = record { 0 = pos 0 } }
+-- a record with its place, and none
+abbrev pub recordReply : ℕ → Record → RecordReply
+recordReply k r = record { accepted = true; refusal = 0; place = k; held = r }
+
+abbrev pub noRecordReply : ℕ → RecordReply
+noRecordReply n = record { accepted = false; refusal = n; place = 0; held = noRecord }
 
 unfoldable pub recordReplyOf : ℕ → Fetched → RecordReply
-recordReplyOf k (Held r) = record { accepted = true; refusal = 0; place = k; held = r }
-recordReplyOf k (NotHeld n) = record { accepted = false; refusal = n; place = 0; held = noRecord }
+recordReplyOf k (Held r) = recordReply k r
+recordReplyOf k (NotHeld n) = noRecordReply n
 
 unfoldable pub heavyReplyOf : Heavy → RecordReply
-heavyReplyOf (Day k r) = record { accepted = true; refusal = 0; place = k; held = r }
-heavyReplyOf (NoDay n) = record { accepted = false; refusal = n; place = 0; held = noRecord }
+heavyReplyOf (Day k r) = recordReply k r
+heavyReplyOf (NoDay n) = noRecordReply n
 
 -- the heavy day alone is loose: the reply is that of some answer that the query may give
 pub record HeavyReplied (m : State) (v : ℕ) (r : RecordReply) : Type 0 where
@@ -74,25 +69,12 @@ pub record HeavyReplied (m : State) (v : ℕ) (r : RecordReply) : Type 0 where
 
 unfoldable pub sumReplyOf : Summed → SumReply
 sumReplyOf (Volume s) = record { accepted = true; refusal = 0; volume = s }
-sumReplyOf (NoSum n) = record { accepted = false; refusal = n; volume = 0 }
+sumReplyOf (NoSum n) = record { accepted = false; refusal = n; volume = record { 0 = 0 } }
 
 unfoldable pub planReplyOf : Reading → PlanReply
-planReplyOf r = record { accepted = accepts (r .answer); refusal = number (r .answer); plan = r .plan }
+planReplyOf r = record { accepted = isAccepted (r .answer); refusal = numberOf (r .answer); plan = r .plan }
 
 unfoldable pub partReplyOf : Choice → PartReply
 partReplyOf First = record { accepted = true; refusal = 0; which = 1 }
 partReplyOf Second = record { accepted = true; refusal = 0; which = 2 }
 partReplyOf (Neither n) = record { accepted = false; refusal = n; which = 0 }
-
--- the sum on its way: its start over a list of n records, and one volume more on it
-abbrev pub summed : ℕ → SumReply
-summed s = record { accepted = true; refusal = 0; volume = s }
-
-abbrev pub unsummed : SumReply
-unsummed = record { accepted = false; refusal = 25; volume = 0 }
-
-unfoldable pub startOf : ℕ → SumReply
-startOf n = cond (leb n 62) (summed 0) unsummed
-
-unfoldable pub addOf : SumReply → ℕ → SumReply
-addOf a v = cond (a .accepted) (cond (leb v 99999999) (cond (leb (a .volume) 6199999938) (summed (a .volume + v)) unsummed) unsummed) unsummed
