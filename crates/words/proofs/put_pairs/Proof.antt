@@ -3,7 +3,8 @@ use mathlib.Core.Path.{_≡_, refl}
 use Prim.Native.Nat.{_≤_, _-_, _/_}
 use native.Mathlib.Omega.{arith}
 use lib.ListN.{length, length-set}
-use Rattle.text.proofs.Behind.{Put, nothing, byte-behind}
+use Rattle.text.specs.Written.{Written}
+use Rattle.text.proofs.Behind.{nothing, byte-behind}
 use Rattle.words.specs.Hex.{pairAt, pairsTo, bytesOf}
 use Rattle.words.proofs.Digits.{pairs-none, pairs-more}
 use borrow.Author.Needs.{needs}
@@ -11,7 +12,7 @@ use Rattle.words.proofs.put_pairs.Statement.{statement}
 use Rattle.words.proofs.put_pairs.Tie as tie
 
 abbrev Inv-loop : tie.InvT-loop
-Inv-loop w out₀ n i₀ out i = (i ≤ n) × (n ≡ length w / 2) × (length out ≡ length out₀) × Put (pairsTo w i) out₀ i out
+Inv-loop w out₀ n i₀ out i = (i ≤ n) × (n ≡ length w / 2) × (length out ≡ length out₀) × Written (pairsTo w i) i out₀ i out
 
 abbrev μ-loop : tie.MeasureT-loop
 μ-loop w out₀ n i₀ out i = n - i
@@ -37,7 +38,7 @@ loop-again c =
     let a = l .before .before .before .args in
     let w = a .w .now in
     let i = l .loop .i in
-    let g = byte-behind (pairsTo w i) (pairAt w i) (a .out .now) (l .loop .inv .3) (omega arith) in
+    let g = byte-behind (pairAt w i) (l .loop .inv .3) (omega arith) in
     (omega arith, refl, simp length-set (l .loop .inv .2), rw (pairs-more w i, c .pair-at .ensures) g)
 
 same-length : tie.Need-same-length Inv-loop μ-loop
