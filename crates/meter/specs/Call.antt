@@ -9,6 +9,8 @@ use Rattle.meter.specs.declared.Alarms.{Alarms}
 use Rattle.meter.specs.declared.Command.{Command}
 use Rattle.meter.specs.declared.Key.{Key}
 use Rattle.meter.specs.declared.Tick.{Tick}
+use Rattle.meter.specs.declared.Call.{Call as Asked}
+use Rattle.meter.specs.declared.Call.the-variants.{Pulses as AskPulses, Recharge as AskRecharge, Load as AskLoad, Alarms as AskAlarms, Command as AskCommand, Key as AskKey, Tick as AskTick}
 
 pub data Call : Type 0 where
   pulses : Pulses → Call
@@ -27,3 +29,13 @@ stampOf (alarms a) = a .stamp
 stampOf (command c) = c .stamp
 stampOf (key k) = k .stamp
 stampOf (tick t) = t .stamp
+
+-- a call of the code, with the bytes lent beside it
+abbrev pub callOf : Asked → List ℕ → Call
+callOf (AskPulses p) bytes = pulses p
+callOf (AskRecharge p) bytes = recharge p
+callOf (AskLoad p) bytes = load p bytes
+callOf (AskAlarms p) bytes = alarms p
+callOf (AskCommand p) bytes = command p
+callOf (AskKey p) bytes = key p
+callOf (AskTick p) bytes = tick p

@@ -1,5 +1,6 @@
 // The seven calls. Each: its refusals in document 01's order, the turn of the day, its effect.
 use crate::Alarms;
+use crate::Call;
 use crate::Command;
 use crate::Key;
 use crate::Load;
@@ -12,7 +13,7 @@ use account::Codes;
 use answer::Answer;
 use calendar::Dated;
 use records::held::Words;
-ghost use Rattle.meter.specs.Call.{pulses as pulsesCall, recharge as rechargeCall, load as loadCall, alarms as alarmsCall, command as commandCall, key as keyCall, tick as tickCall};
+ghost use Rattle.meter.specs.Call.{pulses as pulsesCall, recharge as rechargeCall, load as loadCall, alarms as alarmsCall, command as commandCall, key as keyCall, tick as tickCall, callOf};
 ghost use Rattle.meter.specs.Machine.{meterOf, Answers};
 
 impl Machine {
@@ -155,5 +156,20 @@ impl Machine {
         let is = self.registers.slots.force(date);
         let t = self.registers.turn(words, was, is, p.stamp);
         Machine::accepted(t.registers, t.codes)
+    }
+
+    // Any of the calls; a load alone looks at the bytes.
+    pub fn call(self, words: &mut Words, c: Call, bytes: &[u8]) -> Outcome
+        ensures { λ r. ⌜ Answers (meterOf self (now (words .entry))) (callOf c (now (bytes .entry))) r (now (words .exit)) ⌝ }
+    {
+        match c {
+            Call::Pulses(p) => self.pulses(words, p),
+            Call::Recharge(p) => self.recharge(words, p),
+            Call::Load(p) => self.load(words, p, bytes),
+            Call::Alarms(p) => self.alarms(words, p),
+            Call::Command(p) => self.command(words, p),
+            Call::Key(p) => self.key(words, p),
+            Call::Tick(p) => self.tick(words, p),
+        }
     }
 }
