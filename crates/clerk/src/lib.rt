@@ -7,15 +7,15 @@ use desk::Played;
 use meter::Done;
 use records::held::Words;
 use script::Order;
+use script::Query;
 use state::Registers;
 ghost use mathlib.Core.Path.{_≡_};
-ghost use mathlib.Core.List.{List};
-ghost use Prim.Native.Nat.{ℕ, _*_, _≤_};
+ghost use Prim.Native.Nat.{_*_, _≤_};
 ghost use lib.ListN.{length, take};
 ghost use Rattle.text.specs.Decimal.{startingWith};
 ghost use Rattle.script.specs.Orders.{orderOf, recordOf};
 ghost use Rattle.state.specs.State.{stateOf};
-ghost use Rattle.clerk.specs.Clerk.{playedBy, Said, deskAfter, Answers, sizeOf};
+ghost use Rattle.clerk.specs.Clerk.{idle, playedBy, QuerySaid, Said, Answered, deskAfter, Answers, sizeOf};
 
 // The desk after a line, and the length of the answer.
 pub struct Worked {
@@ -33,30 +33,47 @@ fn record_in(room: &[u8], n: usize) -> &[u8]
     room
 }
 
+// The desk as it is, with nothing done.
+fn idle(desk: Desk) -> Played
+    ensures { λ r. ⌜ r ≡ idle desk ⌝ }
+{
+    Played {
+        desk,
+        done: Done {
+            answer: Answer::Accepted,
+            codes: Codes::none(),
+        },
+    }
+}
+
 // A call on the desk; what is no call leaves it as it is.
 fn called(desk: Desk, order: Order, room: &[u8]) -> Played
     ensures { λ r. ⌜ r ≡ playedBy desk order (take (sizeOf order) (now (room .entry))) ⌝ }
 {
     match order {
-        Order::Pulses(p) => desk.pulses(p),
-        Order::Recharge(p) => desk.recharge(p),
-        Order::Load(p, n) => desk.load(p, record_in(room, n)),
-        Order::Alarms(p) => desk.alarms(p),
-        Order::Command(p) => desk.command(p),
-        Order::Key(p) => desk.key(p),
-        Order::Tick(p) => desk.tick(p),
-        _ => Played {
-            desk,
-            done: Done {
-                answer: Answer::Accepted,
-                codes: Codes::none(),
-            },
-        },
+        Order::Nothing => idle(desk),
+        Order::Call(c, n) => desk.call(c, record_in(room, n)),
+        Order::Query(_) => idle(desk),
+        Order::Show => idle(desk),
+        Order::Wrong(_) => idle(desk),
     }
 }
 
-// The answer to a question on the meter, to a line that is wrong, to one that says nothing, and to a
-// call by what it did.
+// The answer to a question on the meter.
+fn queried(m: Registers, words: &Words, q: Query, out: &mut [u8]) -> usize
+    requires { ⌜ 320 ≤ length (now out) ⌝ }
+    ensures { λ r. ⌜ Answered (QuerySaid (stateOf m (now (words .entry))) q) (now (out .entry)) r (now (out .exit)) ⌝ }
+{
+    match q {
+        Query::Step => report::step_line(query::step(m, words), out),
+        Query::Display => report::display_line(query::display(m, words), out),
+        Query::Day(k) => report::record_line(query::day(m, words, k), out),
+        Query::Month(k) => report::record_line(query::month(m, words, k), out),
+        Query::Heavy(v) => report::heavy_line(query::heavy(m, words, v), out),
+    }
+}
+
+// The answer to a line, from the meter before it and what a call did.
 fn answered(
     m: Registers,
     words: &Words,
@@ -66,18 +83,14 @@ fn answered(
     out: &mut [u8],
 ) -> usize
     requires { ⌜ 320 ≤ length (now out) ⌝ }
-    ensures { λ r. ⌜ (r ≤ 320) × ((text : List ℕ) × Said (stateOf m (now (words .entry))) number order done text × (r ≡ length text) × (now (out .exit) ≡ startingWith text (now (out .entry)))) ⌝ }
+    ensures { λ r. ⌜ Answered (Said (stateOf m (now (words .entry))) number order done) (now (out .entry)) r (now (out .exit)) ⌝ }
 {
     match order {
-        Order::Step => report::step_line(query::step(m, words), out),
-        Order::Display => report::display_line(query::display(m, words), out),
-        Order::Day(k) => report::record_line(query::day(m, words, k), out),
-        Order::Month(k) => report::record_line(query::month(m, words, k), out),
-        Order::Heavy(v) => report::heavy_line(query::heavy(m, words, v), out),
+        Order::Nothing => 0,
+        Order::Call(_, _) => report::call_line(done, out),
+        Order::Query(q) => queried(m, words, q, out),
         Order::Show => showing::show(m, words, out),
         Order::Wrong(k) => report::error_line(number, k, out),
-        Order::Nothing => 0,
-        _ => report::call_line(done, out),
     }
 }
 
@@ -86,9 +99,8 @@ pub fn work(desk: Desk, number: u64, line: &[u8], room: &mut [u8], out: &mut [u8
     requires { ⌜ length (now line) ≤ 2 * length (now room) ⌝ }
     requires { ⌜ 320 ≤ length (now out) ⌝ }
     ensures { λ r. ⌜ r .desk ≡ deskAfter desk (orderOf (now (line .entry))) (recordOf (now (line .entry))) ⌝ }
-    ensures { λ r. ⌜ r .length ≤ 320 ⌝ }
     ensures { λ _. ⌜ now (room .exit) ≡ startingWith (recordOf (now (line .entry))) (now (room .entry)) ⌝ }
-    ensures { λ r. ⌜ ((text : List ℕ) × Answers desk number (orderOf (now (line .entry))) (recordOf (now (line .entry))) text × (r .length ≡ length text) × (now (out .exit) ≡ startingWith text (now (out .entry)))) ⌝ }
+    ensures { λ r. ⌜ Answered (Answers desk number (orderOf (now (line .entry))) (recordOf (now (line .entry)))) (now (out .entry)) (r .length) (now (out .exit)) ⌝ }
 {
     let order = script::parse(line, room);
     let p = called(desk, order, room);

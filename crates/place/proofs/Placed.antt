@@ -1,34 +1,36 @@
 -- Texts put into a buffer one behind another, from a place on. Assumes nothing.
-use mathlib.Core.Path.{_≡_, refl, sym}
-use mathlib.Core.Bool.{Bool, true, false}
+use mathlib.Core.Path.{_≡_, sym, _∙_}
 use mathlib.Core.List.{List, [], _++_, append-assoc, append-nil}
 use Prim.Native.Nat.{ℕ, _+_, _-_, _≤_, _<_}
 use native.Mathlib.Omega.{arith}
-use lib.ListN.{take-append-drop, length, take, drop, length-append, length-drop, drop-of-length-le}
+use lib.ListN.{take-append-drop, length, take, drop, length-append, drop-of-length-le}
 use lib.Seq.{drop-drop, take-at, drop-at, take-all, length-take-le, drop-nil}
 use lib.Dec.{leb}
 use borrow.Author.Tests.{leb-true, leb-false}
 use borrow.Rule.Slice.PartMut.{midOf, putMid}
 use Rattle.text.specs.Decimal.{startingWith}
+use Rattle.text.specs.Written.{Written}
+use Rattle.text.proofs.Behind.{part-is, part-put}
+use Rattle.text.proofs.Digits.{cases}
 use Rattle.place.specs.Place.{behind, Placed}
 
-pub cases : {P : Type 0} (t : Bool) → (t ≡ true → P) → (t ≡ false → P) → P
-cases true f g = f refl
-cases false f g = g refl
-
 -- a text put into the part of the buffer from the place on, `&mut out[at..]`
-pub in-part : (at : ℕ) (text d : List ℕ) {n : ℕ} {part : List ℕ} → n ≡ length text → part ≡ startingWith text (midOf at (length d - at) d)
-    → Placed at text d (at + n) (putMid at (length d - at) d part)
-unfolding startingWith behind
-in-part at text d {n} {part} e p =
-    let m : length (drop at d) ≤ length d - at = omega (arith, length-drop at d) in
-    let mid : take (length d - at) (drop at d) ≡ drop at d = take-all (length d - at) (drop at d) m in
-    let post : drop (length d - at) (drop at d) ≡ [] = drop-of-length-le (drop at d) m in
-    record { place = rw e; buffer = rw (p, post, mid, append-nil) }
+pub in-part : {at m n : ℕ} {text d part : List ℕ} → Written text m (midOf at (length d - at) d) n part
+    → Placed at text m d (at + n) (putMid at (length d - at) d part)
+unfolding behind
+in-part {at} {d = d} {part = part} w = record {
+  place = rw (w .count);
+  few = omega arith;
+  buffer = part-put at d part ∙ rw (w .buffer, part-is);
+}
 
-pub nothing : (at : ℕ) (d : List ℕ) → Placed at [] d at d
+pub nothing : (at : ℕ) (d : List ℕ) → Placed at [] 0 d at d
 unfolding startingWith behind
-nothing at d = record { place = omega arith; buffer = sym (take-append-drop at d) }
+nothing at d = record { place = omega arith; few = omega arith; buffer = sym (take-append-drop at d) }
+
+-- the bound may be larger, and the text another that is the same
+pub within : {at m n r : ℕ} {t a d out : List ℕ} → t ≡ a → m ≤ n → Placed at a m d r out → Placed at t n d r out
+within e h p = rw e (record { place = p .place; few = omega arith; buffer = p .buffer })
 
 -- the buffer before the place behind a text, and from there on
 module _ (at : ℕ) (a d : List ℕ) (h : at ≤ length d) where
@@ -62,13 +64,14 @@ joined at a b d =
     rw (past at a d (omega arith), past (at + length a) b (d ++ a) k, past at (a ++ b) d (omega arith), append-assoc))
 
 -- a text behind a text
-pub then : {at n r : ℕ} {a b d o p : List ℕ} → Placed at a d n o → Placed n b o r p → Placed at (a ++ b) d r p
-then {at} {n} {r} {a} {b} {d} {o} {p} f g = record {
+pub then : {at m n k r : ℕ} {a b d o p : List ℕ} → Placed at a m d n o → Placed n b k o r p → Placed at (a ++ b) (m + k) d r p
+then {at} {a = a} {b} {d} f g = record {
   place = rw (g .place, f .place, length-append) (omega arith);
+  few = omega arith;
   buffer = rw (g .buffer, f .place, f .buffer) (joined at a b d);
 }
 
 -- from place 0 on: at the start
-pub first : {r : ℕ} {text d out : List ℕ} → Placed 0 text d r out → (r ≡ length text) × (out ≡ startingWith text d)
-unfolding startingWith behind
-first p = (omega arith, p .buffer)
+pub first : {m n r : ℕ} {t a d out : List ℕ} → t ≡ a → m ≤ n → Placed 0 a m d r out → Written t n d r out
+unfolding behind
+first e h p = rw e (record { count = omega arith; few = omega arith; buffer = p .buffer })

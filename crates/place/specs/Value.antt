@@ -6,7 +6,7 @@ use lib.Signed.{ltZ}
 use Rattle.text.specs.Decimal.{decimal, signed}
 use Rattle.text.specs.Hex.{hexadecimal}
 use Rattle.place.specs.declared.Value.{Value}
-use Rattle.place.specs.declared.Value.the-variants.{Whole, Signed, Code, Volume, Price, Money}
+use Rattle.place.specs.declared.Value.the-variants.{Whole, Code, Balance, Display, Volume, Price, Money}
 
 -- the last k digits of a number, with zeros in front where it has fewer
 unfoldable pub lastDigits : ℕ → ℕ → List ℕ
@@ -21,11 +21,12 @@ fixed k x = decimal (x / 10 ^ k) ++ (46 ∷ lastDigits k x)
 abbrev pub integer : ℤ → List ℕ
 integer z = signed (ltZ z (pos 0)) (natAbs z)
 
--- hundredths of a cubic metre, ten-thousandths and millionths of a yuan
+-- a balance and a display as the number of their units; a volume, a price and a charge in whole cubic metres and yuan
 abbrev pub valueText : Value → List ℕ
 valueText (Whole x) = decimal x
-valueText (Signed negative x) = signed negative x
 valueText (Code x) = hexadecimal x
-valueText (Volume x) = fixed 2 x
-valueText (Price x) = fixed 4 x
-valueText (Money x) = fixed 6 x
+valueText (Balance b) = integer (b .0)
+valueText (Display s) = integer (s .0)
+valueText (Volume v) = fixed 2 (v .0)
+valueText (Price p) = fixed 4 (p .0)
+valueText (Money c) = fixed 6 (c .0)

@@ -169,8 +169,8 @@ fn close(desk: Desk, out: &mut [u8]) -> usize
 {
     let b = desk.book;
     let balance = desk.meter.machine.registers.account.balance;
-    let sum = b.sum();
-    report::closing_line(b.recharged.0, balance, sum.0, out)
+    let recharged = b.recharged;
+    report::closing_line(recharged, balance, b.sum(), out)
 }
 
 // A last line without its end.

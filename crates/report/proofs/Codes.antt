@@ -11,7 +11,7 @@ use Rattle.text.specs.Hex.{hexadecimal}
 use Rattle.account.specs.declared.Codes.{Codes}
 use Rattle.account.specs.Codes.{told}
 use Rattle.report.specs.Lines.{codesText}
-use Rattle.place.proofs.Placed.{cases}
+use Rattle.text.proofs.Digits.{cases}
 use borrow.Author.Tests.{ltb-true, ltb-false}
 
 codes-behind : (v : List ℕ) (x : ℕ) → codesText (v ++ (x ∷ [])) ≡ codesText v ++ (32 ∷ hexadecimal x)

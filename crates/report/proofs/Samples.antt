@@ -7,7 +7,7 @@ use Rattle.text.specs.Hex.{hexadecimal, glyphsOf}
 use Rattle.units.specs.Money.{money}
 use Rattle.units.specs.Volume.{volume, charge}
 use Rattle.query.specs.declared.Displayed.the-variants.{Shows}
-use Rattle.place.specs.Word.{letters}
+use Rattle.text.specs.Word.{letters}
 use Rattle.report.specs.Lines.{okLine, refusedLine, codesText, displayLine, recordText}
 use Rattle.report.specs.Closing.{closingLine, agrees}
 use Rattle.report.specs.Errors.{errorLine, faultLine, faultText}
@@ -33,10 +33,10 @@ no-number : errorLine 7 3 ≡ letters "error 7: not a decimal number\n"
 unfolding errorLine faultLine faultText decimal digitsOf
 no-number = refl
 
-in-debt : closingLine 100000000 (money (negsuc 27999)) 100028000 ≡ letters "recharged 100000000 balance -28000 ledger 100028000 agree\n"
+in-debt : closingLine (charge 100000000) (money (negsuc 27999)) (charge 100028000) ≡ letters "recharged 100000000 balance -28000 ledger 100028000 agree\n"
 unfolding closingLine agrees signed decimal digitsOf
 in-debt = refl
 
-too-low : closingLine 5 (money (pos 6)) 1 ≡ letters "recharged 5 balance 6 ledger 1 differ\n"
+too-low : closingLine (charge 5) (money (pos 6)) (charge 1) ≡ letters "recharged 5 balance 6 ledger 1 differ\n"
 unfolding closingLine agrees signed decimal digitsOf
 too-low = refl

@@ -4,9 +4,10 @@ use mathlib.Core.List.{List, _++_}
 use Prim.Native.Nat.{ℕ}
 use lib.Dec.{eqb}
 use lib.IntN.{ℤ, pos, negsuc, _-ℤ_}
+use Rattle.units.specs.declared.Charge.{Charge}
 use Rattle.units.specs.declared.Millionths.{Millionths}
 use Rattle.text.specs.Decimal.{decimal}
-use Rattle.place.specs.Word.{letters}
+use Rattle.text.specs.Word.{letters}
 use Rattle.place.specs.Value.{integer}
 
 -- whether an integer is the natural number n
@@ -15,12 +16,12 @@ isNumber (pos m) n = eqb m n
 isNumber (negsuc m) n = false
 
 -- recharged minus balance is the ledger sum
-unfoldable pub agrees : ℕ → Millionths → ℕ → Bool
-agrees recharged balance ledger = isNumber (pos recharged -ℤ balance .0) ledger
+unfoldable pub agrees : Charge → Millionths → Charge → Bool
+agrees recharged balance ledger = isNumber (pos (recharged .0) -ℤ balance .0) (ledger .0)
 
-unfoldable pub closingLine : ℕ → Millionths → ℕ → List ℕ
+unfoldable pub closingLine : Charge → Millionths → Charge → List ℕ
 closingLine r b s =
-    letters "recharged " ++ (decimal r
+    letters "recharged " ++ (decimal (r .0)
     ++ (letters " balance " ++ (integer (b .0)
-    ++ (letters " ledger " ++ (decimal s
+    ++ (letters " ledger " ++ (decimal (s .0)
     ++ cond (agrees r b s) (letters " agree\n") (letters " differ\n"))))))

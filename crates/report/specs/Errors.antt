@@ -4,7 +4,7 @@ use mathlib.Core.List.{List, _++_}
 use Prim.Native.Nat.{ℕ}
 use lib.Dec.{eqb}
 use Rattle.text.specs.Decimal.{decimal}
-use Rattle.place.specs.Word.{letters}
+use Rattle.text.specs.Word.{letters}
 
 -- what is wrong, by the number of the fault
 unfoldable pub faultText : ℕ → List ℕ

@@ -3,7 +3,7 @@ use mathlib.Core.List.{List, [], _∷_, _++_}
 use Prim.Native.Nat.{ℕ}
 use Rattle.text.specs.Decimal.{decimal}
 use Rattle.text.specs.Hex.{hexadecimal}
-use Rattle.place.specs.Word.{letters}
+use Rattle.text.specs.Word.{letters}
 use Rattle.place.specs.Value.{integer}
 use Rattle.answer.specs.declared.Answer.{Answer}
 use Rattle.answer.specs.declared.Answer.the-variants.{Accepted, Refused}

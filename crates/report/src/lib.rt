@@ -10,11 +10,13 @@ use records::Fetched;
 use records::Heavy;
 use records::Record;
 use slots::Stepped;
+use units::Charge;
 use units::Millionths;
 ghost use mathlib.Core.Path.{_≡_};
 ghost use Prim.Native.Nat.{_+_, _≤_, min};
+ghost use lib.Dec.{eqb};
 ghost use lib.ListN.{length};
-ghost use Rattle.text.specs.Decimal.{startingWith};
+ghost use Rattle.text.specs.Written.{Written};
 ghost use Rattle.place.specs.Place.{Placed};
 ghost use Rattle.report.specs.Lines.{refusedLine, okLine, callLine, stepLine, displayLine, recordText, recordLine, heavyLine};
 ghost use Rattle.report.specs.Errors.{faultLine, errorLine};
@@ -22,7 +24,7 @@ ghost use Rattle.report.specs.Closing.{agrees, closingLine};
 
 fn refused(k: u8, out: &mut [u8]) -> usize
     requires { ⌜ 320 ≤ length (now out) ⌝ }
-    ensures { λ r. ⌜ (r ≡ length (refusedLine k)) × (r ≤ 320) × (now (out .exit) ≡ startingWith (refusedLine k) (now (out .entry))) ⌝ }
+    ensures { λ r. ⌜ Written (refusedLine k) 320 (now (out .entry)) r (now (out .exit)) ⌝ }
 {
     let n = place::item(b"refused ", Value::Whole(k as u64), 0, out);
     place::word(b"\n", n, out)
@@ -39,7 +41,7 @@ fn count_of(codes: Codes) -> usize
 // `ok` and the codes.
 fn ok_line(codes: Codes, out: &mut [u8]) -> usize
     requires { ⌜ 320 ≤ length (now out) ⌝ }
-    ensures { λ r. ⌜ (r ≡ length (okLine codes)) × (r ≤ 320) × (now (out .exit) ≡ startingWith (okLine codes) (now (out .entry))) ⌝ }
+    ensures { λ r. ⌜ Written (okLine codes) 320 (now (out .entry)) r (now (out .exit)) ⌝ }
 {
     let n = count_of(codes);
     let mut at = place::word(b"ok", 0, out);
@@ -54,7 +56,7 @@ fn ok_line(codes: Codes, out: &mut [u8]) -> usize
 // The line of a call.
 pub fn call_line(d: Done, out: &mut [u8]) -> usize
     requires { ⌜ 320 ≤ length (now out) ⌝ }
-    ensures { λ r. ⌜ (r ≡ length (callLine d)) × (r ≤ 320) × (now (out .exit) ≡ startingWith (callLine d) (now (out .entry))) ⌝ }
+    ensures { λ r. ⌜ Written (callLine d) 320 (now (out .entry)) r (now (out .exit)) ⌝ }
 {
     let a = d.answer;
     if let Answer::Refused(k) = a {
@@ -66,7 +68,7 @@ pub fn call_line(d: Done, out: &mut [u8]) -> usize
 // The line of the step query.
 pub fn step_line(s: Stepped, out: &mut [u8]) -> usize
     requires { ⌜ 320 ≤ length (now out) ⌝ }
-    ensures { λ r. ⌜ (r ≡ length (stepLine s)) × (r ≤ 320) × (now (out .exit) ≡ startingWith (stepLine s) (now (out .entry))) ⌝ }
+    ensures { λ r. ⌜ Written (stepLine s) 320 (now (out .entry)) r (now (out .exit)) ⌝ }
 {
     match s {
         Stepped::Refused(k) => refused(k, out),
@@ -81,12 +83,12 @@ pub fn step_line(s: Stepped, out: &mut [u8]) -> usize
 // The line of the display query.
 pub fn display_line(d: Displayed, out: &mut [u8]) -> usize
     requires { ⌜ 320 ≤ length (now out) ⌝ }
-    ensures { λ r. ⌜ (r ≡ length (displayLine d)) × (r ≤ 320) × (now (out .exit) ≡ startingWith (displayLine d) (now (out .entry))) ⌝ }
+    ensures { λ r. ⌜ Written (displayLine d) 320 (now (out .entry)) r (now (out .exit)) ⌝ }
 {
     match d {
         Displayed::Refused(k) => refused(k, out),
         Displayed::Shows(s) => {
-            let n = place::item(b"", Value::Signed(s.negative(), s.size()), 0, out);
+            let n = place::item(b"", Value::Display(s), 0, out);
             place::word(b"\n", n, out)
         }
     }
@@ -95,20 +97,20 @@ pub fn display_line(d: Displayed, out: &mut [u8]) -> usize
 // A record's numbers at a place.
 fn record_at(r: Record, at: usize, out: &mut [u8]) -> usize
     requires { ⌜ at + 120 ≤ length (now out) ⌝ }
-    ensures { λ k. ⌜ Placed at (recordText r) (now (out .entry)) k (now (out .exit)) × (k ≤ at + 120) ⌝ }
+    ensures { λ k. ⌜ Placed at (recordText r) 120 (now (out .entry)) k (now (out .exit)) ⌝ }
 {
     let b = r.closing;
     let d = place::item(b"", Value::Whole(r.date as u64), at, out);
     let v = place::item(b" ", Value::Whole(r.volume.0 as u64), d, out);
     let c = place::item(b" ", Value::Whole(r.charge.0), v, out);
-    let e = place::item(b" ", Value::Signed(b.negative(), b.size()), c, out);
+    let e = place::item(b" ", Value::Balance(b), c, out);
     place::word(b"\n", e, out)
 }
 
 // The line of a day or month query.
 pub fn record_line(f: Fetched, out: &mut [u8]) -> usize
     requires { ⌜ 320 ≤ length (now out) ⌝ }
-    ensures { λ r. ⌜ (r ≡ length (recordLine f)) × (r ≤ 320) × (now (out .exit) ≡ startingWith (recordLine f) (now (out .entry))) ⌝ }
+    ensures { λ r. ⌜ Written (recordLine f) 320 (now (out .entry)) r (now (out .exit)) ⌝ }
 {
     match f {
         Fetched::Refused(k) => refused(k, out),
@@ -119,7 +121,7 @@ pub fn record_line(f: Fetched, out: &mut [u8]) -> usize
 // The line of the heavy-day query.
 pub fn heavy_line(h: Heavy, out: &mut [u8]) -> usize
     requires { ⌜ 320 ≤ length (now out) ⌝ }
-    ensures { λ r. ⌜ (r ≡ length (heavyLine h)) × (r ≤ 320) × (now (out .exit) ≡ startingWith (heavyLine h) (now (out .entry))) ⌝ }
+    ensures { λ r. ⌜ Written (heavyLine h) 320 (now (out .entry)) r (now (out .exit)) ⌝ }
 {
     match h {
         Heavy::NoDay(k) => refused(k, out),
@@ -134,7 +136,7 @@ pub fn heavy_line(h: Heavy, out: &mut [u8]) -> usize
 // What is wrong with a line, at a place.
 fn fault_at(fault: u8, at: usize, out: &mut [u8]) -> usize
     requires { ⌜ at + 120 ≤ length (now out) ⌝ }
-    ensures { λ r. ⌜ Placed at (faultLine fault) (now (out .entry)) r (now (out .exit)) × (r ≤ at + 120) ⌝ }
+    ensures { λ r. ⌜ Placed at (faultLine fault) 120 (now (out .entry)) r (now (out .exit)) ⌝ }
 {
     match fault {
         1 => place::word(
@@ -154,42 +156,41 @@ fn fault_at(fault: u8, at: usize, out: &mut [u8]) -> usize
 // The line of a journal line that is no call and no query, with its number.
 pub fn error_line(line: u64, fault: u8, out: &mut [u8]) -> usize
     requires { ⌜ 320 ≤ length (now out) ⌝ }
-    ensures { λ r. ⌜ (r ≡ length (errorLine line fault)) × (r ≤ 320) × (now (out .exit) ≡ startingWith (errorLine line fault) (now (out .entry))) ⌝ }
+    ensures { λ r. ⌜ Written (errorLine line fault) 320 (now (out .entry)) r (now (out .exit)) ⌝ }
 {
     let n = place::item(b"error ", Value::Whole(line), 0, out);
     fault_at(fault, n, out)
 }
 
+// Whether `more` is `less` and `size` together; any numbers.
+fn exceeds(more: Charge, less: Charge, size: u64) -> bool
+    ensures { λ r. ⌜ r ≡ eqb (less .0 + size) (more .0) ⌝ }
+{
+    if more.0 < less.0 {
+        return false;
+    }
+    more.0 - less.0 == size
+}
+
 // Whether recharged minus balance is the ledger sum; any numbers.
-fn agree(recharged: u64, balance: Millionths, ledger: u64) -> bool
+fn agree(recharged: Charge, balance: Millionths, ledger: Charge) -> bool
     ensures { λ r. ⌜ r ≡ agrees recharged balance ledger ⌝ }
 {
     let size = balance.size();
     if balance.negative() {
-        if ledger < recharged {
-            return false;
-        }
-        return ledger - recharged == size;
+        return exceeds(ledger, recharged, size);
     }
-    if recharged < ledger {
-        return false;
-    }
-    recharged - ledger == size
+    exceeds(recharged, ledger, size)
 }
 
 // The closing line.
-pub fn closing_line(recharged: u64, balance: Millionths, ledger: u64, out: &mut [u8]) -> usize
+pub fn closing_line(recharged: Charge, balance: Millionths, ledger: Charge, out: &mut [u8]) -> usize
     requires { ⌜ 320 ≤ length (now out) ⌝ }
-    ensures { λ r. ⌜ (r ≡ length (closingLine recharged balance ledger)) × (r ≤ 320) × (now (out .exit) ≡ startingWith (closingLine recharged balance ledger) (now (out .entry))) ⌝ }
+    ensures { λ r. ⌜ Written (closingLine recharged balance ledger) 320 (now (out .entry)) r (now (out .exit)) ⌝ }
 {
-    let n = place::item(b"recharged ", Value::Whole(recharged), 0, out);
-    let b = place::item(
-        b" balance ",
-        Value::Signed(balance.negative(), balance.size()),
-        n,
-        out,
-    );
-    let s = place::item(b" ledger ", Value::Whole(ledger), b, out);
+    let n = place::item(b"recharged ", Value::Whole(recharged.0), 0, out);
+    let b = place::item(b" balance ", Value::Balance(balance), n, out);
+    let s = place::item(b" ledger ", Value::Whole(ledger.0), b, out);
     let agreed = agree(recharged, balance, ledger);
     place::either(agreed, b" agree\n", b" differ\n", s, out)
 }

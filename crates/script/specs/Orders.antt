@@ -15,7 +15,9 @@ use Rattle.script.specs.declared.Kind.the-variants as kind
 use Rattle.script.specs.declared.Verdict.{Verdict}
 use Rattle.script.specs.declared.Verdict.the-variants.{Sound, Fault}
 use Rattle.script.specs.declared.Order.{Order}
-use Rattle.script.specs.declared.Order.the-variants.{Nothing, Pulses, Recharge, Load, Alarms, Command, Key, Tick, Step, Display, Day, Month, Heavy, Show, Wrong}
+use Rattle.script.specs.declared.Order.the-variants.{Nothing, Call, Query, Show, Wrong}
+use Rattle.script.specs.declared.Query.the-variants.{Step, Display, Day, Month, Heavy}
+use Rattle.meter.specs.declared.Call.the-variants as call
 use Rattle.script.specs.Kinds.{kindOf, formOf}
 use Rattle.script.specs.Faults.{verdictOf}
 
@@ -25,18 +27,18 @@ stampIn s = record { date = narrowAt s 1; second = narrowAt s 2 }
 
 -- what a content without a fault says
 unfoldable pub saidBy : Kind → List ℕ → Order
-saidBy kind.Pulse s = Pulses (record { stamp = stampIn s; count = volume (narrowAt s 3) })
-saidBy kind.Recharge s = Recharge (record { stamp = stampIn s; amount = price (wideAt s 3); serial = narrowAt s 4 })
-saidBy kind.Plan s = Load (record { stamp = stampIn s; slot = narrowAt s 3 }) (length (bytesOf (wordAt s 4)))
-saidBy kind.Alarms s = Alarms (record { stamp = stampIn s; one = narrowAt s 3; two = narrowAt s 4 })
-saidBy kind.Command s = Command (record { stamp = stampIn s; code = narrowAt s 3 })
-saidBy kind.Key s = Key (record { stamp = stampIn s })
-saidBy kind.Tick s = Tick (record { stamp = stampIn s })
-saidBy kind.Step s = Step
-saidBy kind.Display s = Display
-saidBy kind.Day s = Day (wideAt s 1)
-saidBy kind.Month s = Month (wideAt s 1)
-saidBy kind.Heavy s = Heavy (volume (narrowAt s 1))
+saidBy kind.Pulse s = Call (call.Pulses (record { stamp = stampIn s; count = volume (narrowAt s 3) })) 0
+saidBy kind.Recharge s = Call (call.Recharge (record { stamp = stampIn s; amount = price (wideAt s 3); serial = narrowAt s 4 })) 0
+saidBy kind.Plan s = Call (call.Load (record { stamp = stampIn s; slot = narrowAt s 3 })) (length (bytesOf (wordAt s 4)))
+saidBy kind.Alarms s = Call (call.Alarms (record { stamp = stampIn s; one = narrowAt s 3; two = narrowAt s 4 })) 0
+saidBy kind.Command s = Call (call.Command (record { stamp = stampIn s; code = narrowAt s 3 })) 0
+saidBy kind.Key s = Call (call.Key (record { stamp = stampIn s })) 0
+saidBy kind.Tick s = Call (call.Tick (record { stamp = stampIn s })) 0
+saidBy kind.Step s = Query Step
+saidBy kind.Display s = Query Display
+saidBy kind.Day s = Query (Day (wideAt s 1))
+saidBy kind.Month s = Query (Month (wideAt s 1))
+saidBy kind.Heavy s = Query (Heavy (volume (narrowAt s 1)))
 saidBy kind.Show s = Show
 saidBy kind.Unknown s = Wrong 1
 

@@ -1,6 +1,7 @@
 // A journal of calls as plain text, one call to a line: what a line says, or what is wrong with it.
 use calendar::Stamp;
 use meter::Alarms;
+use meter::Call;
 use meter::Command;
 use meter::Key;
 use meter::Load;
@@ -48,22 +49,21 @@ pub enum Verdict {
     Fault(u8),
 }
 
-// What a line says. The record of a plan stands at the start of a lent buffer; its length is beside
-// `Load`. `Wrong` has the fault's number.
-pub enum Order {
-    Nothing,
-    Pulses(Pulses),
-    Recharge(Recharge),
-    Load(Load, usize),
-    Alarms(Alarms),
-    Command(Command),
-    Key(Key),
-    Tick(Tick),
+// A question on the meter.
+pub enum Query {
     Step,
     Display,
     Day(usize),
     Month(usize),
     Heavy(Hundredths),
+}
+
+// What a line says. The record of a plan stands at the start of a lent buffer; its length is beside
+// the call, 0 for any other. `Wrong` has the fault's number.
+pub enum Order {
+    Nothing,
+    Call(Call, usize),
+    Query(Query),
     Show,
     Wrong(u8),
 }
@@ -197,50 +197,62 @@ fn stamp_in(s: &[u8]) -> Stamp
 fn pulses_in(s: &[u8]) -> Order
     ensures { λ r. ⌜ r ≡ saidBy Kind.Pulse (now (s .entry)) ⌝ }
 {
-    Order::Pulses(Pulses {
-        stamp: stamp_in(s),
-        count: Hundredths(words::narrow_at(s, 3)),
-    })
+    Order::Call(
+        Call::Pulses(Pulses {
+            stamp: stamp_in(s),
+            count: Hundredths(words::narrow_at(s, 3)),
+        }),
+        0,
+    )
 }
 
 fn recharge_in(s: &[u8]) -> Order
     ensures { λ r. ⌜ r ≡ saidBy Kind.Recharge (now (s .entry)) ⌝ }
 {
-    Order::Recharge(Recharge {
-        stamp: stamp_in(s),
-        amount: TenThousandths(words::wide_at(s, 3)),
-        serial: words::narrow_at(s, 4),
-    })
+    Order::Call(
+        Call::Recharge(Recharge {
+            stamp: stamp_in(s),
+            amount: TenThousandths(words::wide_at(s, 3)),
+            serial: words::narrow_at(s, 4),
+        }),
+        0,
+    )
 }
 
 fn alarms_in(s: &[u8]) -> Order
     ensures { λ r. ⌜ r ≡ saidBy Kind.Alarms (now (s .entry)) ⌝ }
 {
-    Order::Alarms(Alarms {
-        stamp: stamp_in(s),
-        one: words::narrow_at(s, 3),
-        two: words::narrow_at(s, 4),
-    })
+    Order::Call(
+        Call::Alarms(Alarms {
+            stamp: stamp_in(s),
+            one: words::narrow_at(s, 3),
+            two: words::narrow_at(s, 4),
+        }),
+        0,
+    )
 }
 
 fn command_in(s: &[u8]) -> Order
     ensures { λ r. ⌜ r ≡ saidBy Kind.Command (now (s .entry)) ⌝ }
 {
-    Order::Command(Command {
-        stamp: stamp_in(s),
-        code: words::narrow_at(s, 3),
-    })
+    Order::Call(
+        Call::Command(Command {
+            stamp: stamp_in(s),
+            code: words::narrow_at(s, 3),
+        }),
+        0,
+    )
 }
 
 fn load_in(s: &[u8]) -> Order
     ensures { λ r. ⌜ r ≡ saidBy Kind.Plan (now (s .entry)) ⌝ }
 {
     let bytes = words::word(s, 4).len() / 2;
-    Order::Load(
-        Load {
+    Order::Call(
+        Call::Load(Load {
             stamp: stamp_in(s),
             slot: words::narrow_at(s, 3),
-        },
+        }),
         bytes,
     )
 }
@@ -255,13 +267,13 @@ fn said(kind: Kind, s: &[u8]) -> Order
         Kind::Plan => load_in(s),
         Kind::Alarms => alarms_in(s),
         Kind::Command => command_in(s),
-        Kind::Key => Order::Key(Key { stamp: stamp_in(s) }),
-        Kind::Tick => Order::Tick(Tick { stamp: stamp_in(s) }),
-        Kind::Step => Order::Step,
-        Kind::Display => Order::Display,
-        Kind::Day => Order::Day(words::wide_at(s, 1) as usize),
-        Kind::Month => Order::Month(words::wide_at(s, 1) as usize),
-        Kind::Heavy => Order::Heavy(Hundredths(words::narrow_at(s, 1))),
+        Kind::Key => Order::Call(Call::Key(Key { stamp: stamp_in(s) }), 0),
+        Kind::Tick => Order::Call(Call::Tick(Tick { stamp: stamp_in(s) }), 0),
+        Kind::Step => Order::Query(Query::Step),
+        Kind::Display => Order::Query(Query::Display),
+        Kind::Day => Order::Query(Query::Day(words::wide_at(s, 1) as usize)),
+        Kind::Month => Order::Query(Query::Month(words::wide_at(s, 1) as usize)),
+        Kind::Heavy => Order::Query(Query::Heavy(Hundredths(words::narrow_at(s, 1)))),
         Kind::Show => Order::Show,
         Kind::Unknown => Order::Wrong(1),
     }

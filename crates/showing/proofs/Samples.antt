@@ -4,7 +4,7 @@ use lib.IntN.{pos, negsuc}
 use Rattle.text.specs.Decimal.{decimal, digitsOf}
 use Rattle.units.specs.Volume.{volume, price, charge}
 use Rattle.slots.specs.declared.Stepped.the-variants.{At, Refused}
-use Rattle.place.specs.Word.{letters}
+use Rattle.text.specs.Word.{letters}
 use Rattle.place.specs.Value.{fixed, lastDigits}
 use Rattle.showing.specs.Show.{balanceShown, usageShown, stepShown, dayShown}
 

@@ -6,7 +6,7 @@ use lib.Dec.{eqb}
 use lib.IntN.{ℤ, pos, natAbs}
 use lib.Signed.{ltZ}
 use Rattle.text.specs.Decimal.{decimal}
-use Rattle.place.specs.Word.{letters}
+use Rattle.text.specs.Word.{letters}
 use Rattle.place.specs.Value.{fixed}
 use Rattle.account.specs.declared.Valve.{Valve}
 use Rattle.slots.specs.declared.Stepped.{Stepped}

@@ -8,51 +8,62 @@ use lib.ListN.{length, take, drop, set, length-append, length-drop, drop-of-leng
 use lib.Seq.{drop-drop, drop-cons, set-at, take-at, drop-at, take-all}
 use borrow.Rule.Slice.PartMut.{midOf, putMid}
 use Rattle.text.specs.Decimal.{startingWith}
+use Rattle.text.specs.Written.{Written}
 
--- `out` is the buffer d with a text of r bytes at its start
-abbrev pub Put : List ℕ → List ℕ → ℕ → List ℕ → Type 0
-Put text d r out = (r ≡ length text) × (out ≡ startingWith text d)
+-- the part `&mut out[at..]` is all that stands from the place on, and what is put there stands behind the rest
+pub part-is : (at : ℕ) (out : List ℕ) → midOf at (length out - at) out ≡ drop at out
+part-is at out = take-all (length out - at) (drop at out) (omega (arith, length-drop at out))
 
-pub nothing : (d : List ℕ) → Put [] d 0 d
+pub part-put : (at : ℕ) (out part : List ℕ) → putMid at (length out - at) out part ≡ take at out ++ part
+part-put at out part =
+    let post : drop (length out - at) (drop at out) ≡ [] = drop-of-length-le (drop at out) {i = length out - at} (omega (arith, length-drop at out)) in
+    rw (post, append-nil)
+
+pub nothing : (d : List ℕ) → Written [] 0 d 0 d
 unfolding startingWith
-nothing d = (refl, refl)
+nothing d = record { count = refl; few = omega arith; buffer = refl }
 
-pub same-room : (a d : List ℕ) {r : ℕ} {out : List ℕ} → Put a d r out → r ≤ length d → length out ≡ length d
+-- the bound may be larger, and the text another that is the same
+pub within : {t a d out : List ℕ} {m n r : ℕ} → t ≡ a → m ≤ n → Written a m d r out → Written t n d r out
+within e h p = rw e (record { count = p .count; few = omega arith; buffer = p .buffer })
+
+pub same-room : {a d out : List ℕ} {m r : ℕ} → Written a m d r out → r ≤ length d → length out ≡ length d
 unfolding startingWith
-same-room a d p h = rw (p .1, length-append, length-drop, ← p .0) (omega arith)
+same-room p h = rw (p .buffer, length-append, length-drop, ← p .count) (omega arith)
 
 -- a byte stored behind a text
-pub byte-behind : (a : List ℕ) (x : ℕ) (d : List ℕ) {at : ℕ} {out : List ℕ} → Put a d at out → at < length d
-    → Put (a ++ (x ∷ [])) d (at + 1) (set out at x)
+pub byte-behind : {a d out : List ℕ} {m at : ℕ} (x : ℕ) → Written a m d at out → at < length d
+    → Written (a ++ (x ∷ [])) (m + 1) d (at + 1) (set out at x)
 unfolding startingWith
-byte-behind a x d {at} {out} p h = (
-  rw (length-append, p .0),
-  ap (λ (l : List ℕ). set l at x) (p .1 ∙ ap (λ (l : List ℕ). a ++ l) (drop-cons d (length a) 0 (rw (p .0) at h)))
-      ∙ set-at a _ _ x at (sym (p .0))
-      ∙ rw (length-append, append-assoc, add-one),
-)
+byte-behind {a} {d} {out} {m} {at} x p h = record {
+  count = rw (length-append, p .count);
+  few = omega arith;
+  buffer = ap (λ (l : List ℕ). set l at x) (p .buffer ∙ ap (λ (l : List ℕ). a ++ l) (drop-cons d (length a) 0 (rw (p .count) at h)))
+      ∙ set-at a _ _ x at (sym (p .count))
+      ∙ rw (length-append, append-assoc, add-one);
+}
 
--- a text put into the part of the buffer behind a text, `&mut out[at..]`
-pub text-behind : (a b d : List ℕ) {at n : ℕ} {out part : List ℕ} → Put a d at out → Put b (midOf at (length out - at) out) n part
-    → Put (a ++ b) d (at + n) (putMid at (length out - at) out part)
+-- a text put into the part of the buffer behind a text
+pub text-behind : {a b d out part : List ℕ} {m n at k : ℕ} → Written a m d at out → Written b n (midOf at (length out - at) out) k part
+    → Written (a ++ b) (m + n) d (at + k) (putMid at (length out - at) out part)
 unfolding startingWith
-text-behind a b d {at} {n} {out} {part} p g =
-    let tk : take at out ≡ a = ap (λ (l : List ℕ). take at l) (p .1) ∙ take-at a (drop (length a) d) at (sym (p .0)) in
-    let dp : drop at out ≡ drop (length a) d = ap (λ (l : List ℕ). drop at l) (p .1) ∙ drop-at a (drop (length a) d) at (sym (p .0)) in
-    let m : length (drop at out) ≤ length out - at = omega (arith, length-drop at out) in
-    let mid : take (length out - at) (drop at out) ≡ drop at out = take-all (length out - at) (drop at out) m in
-    let post : drop (length out - at) (drop at out) ≡ [] = drop-of-length-le (drop at out) m in (
-      rw (length-append, p .0, g .0),
-      rw (g .1, post, mid, tk, dp, append-nil, length-append, ← drop-drop (length b) (length a) d, append-assoc),
-    )
+text-behind {a} {b} {d} {out} {part} {at = at} p g =
+    let tk : take at out ≡ a = ap (λ (l : List ℕ). take at l) (p .buffer) ∙ take-at a (drop (length a) d) at (sym (p .count)) in
+    let dp : drop at out ≡ drop (length a) d = ap (λ (l : List ℕ). drop at l) (p .buffer) ∙ drop-at a (drop (length a) d) at (sym (p .count)) in
+    record {
+      count = rw (length-append, p .count, g .count);
+      few = omega arith;
+      buffer = part-put at out part
+          ∙ rw (g .buffer, part-is, tk, dp, length-append, ← drop-drop (length b) (length a) d, append-assoc);
+    }
 
 -- a text that ends with the byte x, of at most n bytes: there is room for x, and it completes the text
 pub room-behind : (n : ℕ) (s : List ℕ) (x : ℕ) {t : List ℕ} {at : ℕ} → t ≡ s ++ (x ∷ []) → length t ≤ n → at ≡ length s → at < n
 room-behind n s x e most q = let l = ap length e ∙ length-append s (x ∷ []) in omega arith
 
-pub completed : (n : ℕ) (s : List ℕ) (x : ℕ) (d : List ℕ) {t out : List ℕ} {at : ℕ} → t ≡ s ++ (x ∷ []) → length t ≤ n → n ≤ length d → Put s d at out
-    → (at + 1 ≡ length t) × (at + 1 ≤ n) × (1 ≤ at + 1) × (set out at x ≡ startingWith t d)
-completed n s x d e most h p =
-    let r = room-behind n s x e most (p .0) in
-    let g = byte-behind s x d p (omega arith) in
-    (rw e (g .0), omega arith, omega arith, rw e (g .1))
+pub completed : (n x : ℕ) {s d t out : List ℕ} {m at : ℕ} → t ≡ s ++ (x ∷ []) → length t ≤ n → n ≤ length d → Written s m d at out
+    → Written t n d (at + 1) (set out at x)
+completed n x {s} {d} e most h p =
+    let r = room-behind n s x e most (p .count) in
+    let g = byte-behind x p (omega arith) in
+    rw e (record { count = g .count; few = omega arith; buffer = g .buffer })

@@ -11,7 +11,7 @@ use borrow.Author.Tests.{ltb-true, ltb-false, lt-ltb, le-ltb}
 use Rattle.text.specs.Decimal.{digitsOf, decimal}
 use Rattle.text.specs.Hex.{glyph, glyphsOf, hexadecimal}
 
-cases : {P : Type 0} (t : Bool) → (t ≡ true → P) → (t ≡ false → P) → P
+pub cases : {P : Type 0} (t : Bool) → (t ≡ true → P) → (t ≡ false → P) → P
 cases true f g = f refl
 cases false f g = g refl
 

@@ -1,2 +1,4 @@
 pub mod Decimal
 pub mod Hex
+pub mod Word
+pub mod Written

@@ -4,14 +4,15 @@ ghost use mathlib.Core.Path.{_≡_};
 ghost use mathlib.Core.List.{[], _∷_, _++_};
 ghost use Prim.Native.Nat.{_*_, _≤_, _<_};
 ghost use lib.ListN.{length};
-ghost use Rattle.text.specs.Decimal.{decimal, signed, spaced, startingWith};
+ghost use Rattle.text.specs.Decimal.{decimal, signed, spaced};
 ghost use Rattle.text.specs.Hex.{glyph, hexadecimal};
+ghost use Rattle.text.specs.Written.{Written};
 
 // A number in plain decimal: the digits of a tenth of it, and behind them the last one.
 // At most twenty calls deep.
 pub fn put_decimal(x: u64, out: &mut [u8]) -> usize
     requires { ⌜ 20 ≤ length (now out) ⌝ }
-    ensures { λ r. ⌜ (r ≡ length (decimal x)) × (r ≤ 20) × (1 ≤ r) × (now (out .exit) ≡ startingWith (decimal x) (now (out .entry))) ⌝ }
+    ensures { λ r. ⌜ Written (decimal x) 20 (now (out .entry)) r (now (out .exit)) ⌝ }
 {
     if x < 10 {
         out[0] = (48 + x) as u8;
@@ -25,7 +26,7 @@ pub fn put_decimal(x: u64, out: &mut [u8]) -> usize
 // The same with a minus sign before it where it is negative.
 pub fn put_signed(negative: bool, size: u64, out: &mut [u8]) -> usize
     requires { ⌜ 21 ≤ length (now out) ⌝ }
-    ensures { λ r. ⌜ (r ≡ length (signed negative size)) × (r ≤ 21) × (1 ≤ r) × (now (out .exit) ≡ startingWith (signed negative size) (now (out .entry))) ⌝ }
+    ensures { λ r. ⌜ Written (signed negative size) 21 (now (out .entry)) r (now (out .exit)) ⌝ }
 {
     if negative {
         out[0] = 45;
@@ -49,7 +50,7 @@ fn glyph_of(d: u32) -> u8
 // A number in capital hexadecimal, in the same way. At most eight calls deep.
 pub fn put_hex(x: u32, out: &mut [u8]) -> usize
     requires { ⌜ 8 ≤ length (now out) ⌝ }
-    ensures { λ r. ⌜ (r ≡ length (hexadecimal x)) × (r ≤ 8) × (1 ≤ r) × (now (out .exit) ≡ startingWith (hexadecimal x) (now (out .entry))) ⌝ }
+    ensures { λ r. ⌜ Written (hexadecimal x) 8 (now (out .entry)) r (now (out .exit)) ⌝ }
 {
     if x < 16 {
         out[0] = glyph_of(x);
@@ -63,7 +64,7 @@ pub fn put_hex(x: u32, out: &mut [u8]) -> usize
 // The bytes of a word.
 pub fn put_bytes(word: &[u8], out: &mut [u8]) -> usize
     requires { ⌜ length (now word) ≤ length (now out) ⌝ }
-    ensures { λ r. ⌜ (r ≡ length (now (word .entry))) × (now (out .exit) ≡ startingWith (now (word .entry)) (now (out .entry))) ⌝ }
+    ensures { λ r. ⌜ Written (now (word .entry)) (length (now (word .entry))) (now (out .entry)) r (now (out .exit)) ⌝ }
 {
     let n = word.len();
     let mut i = 0;
@@ -77,7 +78,7 @@ pub fn put_bytes(word: &[u8], out: &mut [u8]) -> usize
 // A number and one byte behind it, a space or a newline.
 pub fn put_item(x: u64, after: u8, out: &mut [u8]) -> usize
     requires { ⌜ 21 ≤ length (now out) ⌝ }
-    ensures { λ r. ⌜ (r ≡ length (decimal x ++ (after ∷ []))) × (r ≤ 21) × (1 ≤ r) × (now (out .exit) ≡ startingWith (decimal x ++ (after ∷ [])) (now (out .entry))) ⌝ }
+    ensures { λ r. ⌜ Written (decimal x ++ (after ∷ [])) 21 (now (out .entry)) r (now (out .exit)) ⌝ }
 {
     let n = put_decimal(x, out);
     out[n] = after;
@@ -87,7 +88,7 @@ pub fn put_item(x: u64, after: u8, out: &mut [u8]) -> usize
 // A line: numbers with single spaces between them, and a newline.
 pub fn put_numbers(v: &[u64], out: &mut [u8]) -> usize
     requires { ⌜ (1 ≤ length (now v)) × (length (now v) * 21 ≤ length (now out)) ⌝ }
-    ensures { λ r. ⌜ (r ≡ length (spaced (now (v .entry)) ++ (10 ∷ []))) × (r ≤ length (now (v .entry)) * 21) × (1 ≤ r) × (now (out .exit) ≡ startingWith (spaced (now (v .entry)) ++ (10 ∷ [])) (now (out .entry))) ⌝ }
+    ensures { λ r. ⌜ Written (spaced (now (v .entry)) ++ (10 ∷ [])) (length (now (v .entry)) * 21) (now (out .entry)) r (now (out .exit)) ⌝ }
 {
     let last = v.len() - 1;
     let mut at = 0;

@@ -2,7 +2,7 @@
 ghost use mathlib.Core.Path.{_≡_};
 ghost use Prim.Native.Nat.{_+_, _-_, _*_, _/_, _≤_, _<_, min};
 ghost use lib.ListN.{length, take};
-ghost use Rattle.text.specs.Decimal.{startingWith};
+ghost use Rattle.text.specs.Written.{Written};
 ghost use Rattle.words.specs.Words.{isBlank, trimmed, content, wordAt, wordsBehind, hasGap, same};
 ghost use Rattle.words.specs.Numbers.{isDigit, isNumber, areNumbers, valueOf, wideAt, narrowAt};
 ghost use Rattle.words.specs.Hex.{isCapital, isSmall, isHexDigit, isHex, digitValue, pairAt, bytesOf};
@@ -244,7 +244,7 @@ fn pair_at(w: &[u8], k: usize) -> u8
 // The bytes of a word of pairs, put at the start of a buffer; answers how many.
 pub fn put_pairs(w: &[u8], out: &mut [u8]) -> usize
     requires { ⌜ length (now w) ≤ 2 * length (now out) ⌝ }
-    ensures { λ r. ⌜ (r ≡ length (bytesOf (now (w .entry)))) × (now (out .exit) ≡ startingWith (bytesOf (now (w .entry))) (now (out .entry))) ⌝ }
+    ensures { λ r. ⌜ Written (bytesOf (now (w .entry))) (length (now (w .entry)) / 2) (now (out .entry)) r (now (out .exit)) ⌝ }
 {
     let n = w.len() / 2;
     let mut i = 0;

@@ -1,5 +1,5 @@
 -- The line's reader gives the order and the record, and the two halves of the work go by them.
-use Rattle.clerk.proofs.Halves.{worked}
+use Rattle.clerk.proofs.Halves.{answer, worked}
 use borrow.Author.Needs.{needs}
 use Rattle.clerk.proofs.work.Statement.{statement}
 use Rattle.clerk.proofs.work.Tie as tie
@@ -11,9 +11,9 @@ returns c =
     let o = p .before .before .before .before in
     let a = o .before .before .before .before .before .args in
     let q = o .parse .ensures in
-    let said = w .answered .ensures .1 in
+    let s = w .answered .ensures in
     let all = worked (a .desk) (a .number) (a .line .now) (a .room .now) (q .0) (q .1) (p .called .ensures) in
-    (all .0, (w .answered .ensures .0, (q .1, (said .0, all .1 (said .0) (said .1), said .2, said .3))))
+    (all .0, (q .1, answer (s .written) (all .1 (s .text) (s .said))))
 
 pub work-spec : {M : Type 1} → statement M
 work-spec =

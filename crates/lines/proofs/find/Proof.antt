@@ -18,20 +18,11 @@ abbrev μ-loop : tie.MeasureT-loop
 loop-holds : tie.Need-loop-holds Inv-loop μ-loop
 loop-holds c = (search needs, search needs, refl)
 
-shared-slice-read-if1 : tie.Need-shared-slice-read-if1 Inv-loop μ-loop
-shared-slice-read-if1 c = search needs
-
 returns : tie.Need-returns Inv-loop μ-loop
 returns c =
     let l = c .before .before .before in
     let a = l .before .args in
     (sym (place-here (a .b) (a .s .now) (l .loop .i) (omega arith) (c .if1 .taken)) ∙ l .loop .inv .2, omega arith, omega arith)
-
-add-i : tie.Need-add-i Inv-loop μ-loop
-add-i c = search needs
-
-loop-less : tie.Need-loop-less Inv-loop μ-loop
-loop-less c = search needs
 
 loop-again : tie.Need-loop-again Inv-loop μ-loop
 loop-again c =
@@ -53,9 +44,9 @@ find-spec =
     Inv-loop
     μ-loop
     loop-holds
-    shared-slice-read-if1
+    (search needs)
     returns
-    add-i
-    loop-less
+    (search needs)
+    (search needs)
     loop-again
     returns-2)

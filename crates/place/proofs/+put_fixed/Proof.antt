@@ -5,7 +5,7 @@ use native.Mathlib.Omega.{arith}
 use borrow.Author.Needs.{needs}
 use borrow.Fn.Kinds.{In}
 use borrow.Fn.PlainCycle.{Measures, is, falls, and}
-use Rattle.text.proofs.Behind.{byte-behind}
+use Rattle.text.proofs.Behind.{within, byte-behind}
 use Rattle.text.proofs.put_item.Reads as item
 use Rattle.place.specs.Value.{fixed}
 use Rattle.place.proofs.Fixed.{fixed-none, fixed-more}
@@ -33,10 +33,7 @@ module _ (t : ℕ) where
 
   returns : walk.Need-returns (item.Asked, item.Learnt, below, Post) here Post
   returns c =
-      let s = c .before .before .before .before .before .before in
-      let p = c .before .before .put-item .ensures in
-      let none : s .args .k ≡ 0 = c .before .before .before .before .if1 .taken in
-      rw (none, fixed-none) (p .0, p .1, p .3)
+      rw (c .before .before .before .before .if1 .taken) (within (fixed-none _) (omega arith) (c .before .before .put-item .ensures))
 
   sub-put-fixed : walk.Need-sub-put-fixed (item.Asked, item.Learnt, below, Post) here Post
   sub-put-fixed c = search needs
@@ -65,9 +62,7 @@ module _ (t : ℕ) where
       let x = s .args .x in
       let p = c .before .before .put-fixed .ensures in
       let more : s .args .k ≡ suc (s .args .k - 1) = omega arith in
-      let g = byte-behind (fixed (s .args .k - 1) (x / 10)) (48 + x % 10) (s .args .out .now) (p .0, p .2) (omega arith) in
-      let whole = ap (λ n. fixed n x) more ∙ fixed-more (s .args .k - 1) x in
-      (rw whole (g .0), omega arith, rw whole (g .1))
+      within (ap (λ n. fixed n x) more ∙ fixed-more (s .args .k - 1) x) (omega arith) (byte-behind (48 + x % 10) p (omega arith))
 
 pub +put-fixed-spec : {M : Type 1} → statement M
 +put-fixed-spec = close μ λ t. walk.spec (item.Asked, item.Learnt, below t, Post) (here t) Post

@@ -5,10 +5,7 @@ use Rattle.place.proofs.word.Statement.{statement}
 use Rattle.place.proofs.word.Tie as tie
 
 returns : tie.Need-returns
-returns c =
-    let a = c .before .before .before .before .before .before .args in
-    let p = c .before .before .put-bytes .ensures in
-    in-part (a .at) (a .w .now) (a .out .now) (p .0) (p .1)
+returns c = in-part (c .before .before .put-bytes .ensures)
 
 pub word-spec : {M : Type 1} → statement M
 word-spec =

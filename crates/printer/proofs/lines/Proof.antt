@@ -5,7 +5,8 @@ use native.Mathlib.Omega.{arith}
 use lib.ListN.{length, length-take, length-drop}
 use borrow.Rule.Slice.PartMut.{same-len-mid}
 use borrow.Author.Needs.{needs}
-use Rattle.text.proofs.Behind.{Put, nothing, text-behind}
+use Rattle.text.specs.Written.{Written}
+use Rattle.text.proofs.Behind.{nothing, within, text-behind}
 use Rattle.printer.specs.Line.{lineOf}
 use Rattle.printer.specs.Records.{recordsIn, recordAt, linesTo, linesOf}
 use Rattle.printer.proofs.Records.{record-begins, count-fits, no-lines, next-line}
@@ -13,7 +14,7 @@ use Rattle.printer.proofs.lines.Statement.{statement}
 use Rattle.printer.proofs.lines.Tie as tie
 
 abbrev Inv-loop : tie.InvT-loop
-Inv-loop s out₀ count i₀ at₀ out i at = (i ≤ count) × (count ≡ recordsIn s) × (at ≤ 378 * i) × (length out ≡ length out₀) × Put (linesTo s i) out₀ at out
+Inv-loop s out₀ count i₀ at₀ out i at = (i ≤ count) × (count ≡ recordsIn s) × (length out ≡ length out₀) × Written (linesTo s i) (378 * i) out₀ at out
 
 abbrev μ-loop : tie.MeasureT-loop
 μ-loop s out₀ count i₀ at₀ out i at = count - i
@@ -25,7 +26,7 @@ add-count c =
 
 loop-holds : tie.Need-loop-holds Inv-loop μ-loop
 unfolding recordsIn
-loop-holds c = (omega arith, refl, omega arith, refl, rw no-lines (nothing (c .before .before .args .out .now)))
+loop-holds c = (omega arith, refl, refl, rw no-lines (nothing (c .before .before .args .out .now)))
 
 record-at-requires : tie.Need-record-at-requires Inv-loop μ-loop
 record-at-requires c κs =
@@ -44,18 +45,18 @@ loop-again c =
     let p = c .before .before .line .ensures in
     let r = c .before .before .before .before .record-at .ensures in
     let kept = c .before .before .line .kept .1 .0 in
-    let g = text-behind (linesTo s i) (lineOf (recordAt s i)) (a .out .now) (l .loop .inv .4) (rw r at (p .0), rw r at (p .2)) in
-    (omega arith, l .loop .inv .1, omega arith, rw same-len-mid (l .loop .inv .3), rw (next-line s i) g)
+    let line : Written (lineOf (recordAt s i)) 378 _ _ _ = record { count = rw r at (p .0); few = p .1; buffer = rw r at (p .2) } in
+    (omega arith, l .loop .inv .1, rw same-len-mid (l .loop .inv .2), within (next-line s i) (omega arith) (text-behind (l .loop .inv .3) line))
 
 same-length : tie.Need-same-length Inv-loop μ-loop
-same-length c = c .before .loop .inv .3
+same-length c = c .before .loop .inv .2
 
 returns : tie.Need-returns Inv-loop μ-loop
 unfolding linesOf
 returns c =
     let l = c .before in
     let all : l .loop .i ≡ recordsIn (l .before .before .before .args .s .now) = omega arith in
-    (rw all at (l .loop .inv .4 .0), omega arith, rw all at (l .loop .inv .4 .1))
+    (rw all at (l .loop .inv .3 .count), omega arith, rw all at (l .loop .inv .3 .buffer))
 
 pub lines-spec : {M : Type 1} → statement M
 lines-spec =

@@ -32,8 +32,8 @@ returns c =
     let r = c .before .before .put-numbers .ensures in
     let t : take (n .count-of .result) (n .before .columns-of .result) ≡ numbersOf p = rw (n .count-of .ensures, n .before .columns-of .ensures) (numbers-first p h) in
     let most = count-range p h .1 in
-    let bound = rw (length-take-le _ _ (array-share-prefix-v n), n .count-of .ensures) at (r .1) in
-    (rw t at (r .0), omega arith, rw t at (r .3))
+    let bound = rw (length-take-le _ _ (array-share-prefix-v n), n .count-of .ensures) at (r .few) in
+    (rw t at (r .count), omega arith, rw t at (r .buffer))
 
 pub plan-line-spec : {M : Type 1} → statement M
 plan-line-spec =

@@ -6,17 +6,11 @@ use Rattle.report.proofs.call_line.Tie as tie
 
 returns : tie.Need-returns
 unfolding callLine
-returns c =
-    let r = c .before .before in
-    let p = r .refused .ensures in
-    rw (r .before .before .before .a .given .1) (p .0, p .1, p .2)
+returns c = rw (c .before .before .before .before .before .a .given .1) (c .before .before .refused .ensures)
 
 returns-2 : tie.Need-returns-2
 unfolding callLine
-returns-2 c =
-    let r = c .before .before in
-    let p = r .ok-line .ensures in
-    rw (r .before .before .enum-told .given .1) (p .0, p .1, p .2)
+returns-2 c = rw (c .before .before .before .before .enum-told .given .1) (c .before .before .ok-line .ensures)
 
 pub call-line-spec : {M : Type 1} → statement M
 call-line-spec =

@@ -6,25 +6,17 @@ use Rattle.report.proofs.display_line.Statement.{statement}
 use Rattle.report.proofs.display_line.Tie as tie
 
 returns : tie.Need-returns
-returns c =
-    let r = c .before .before in
-    let p = r .refused .ensures in
-    rw (r .before .before .before .d .given .1) (p .0, p .1, p .2)
+returns c = rw (c .before .before .before .before .before .d .given .1) (c .before .before .refused .ensures)
 
 returns-2 : tie.Need-returns-2
 returns-2 c =
-    let w = c .before .before in
-    let n = w .before .before .before .before .before in
-    let d = n .before .before .before .before .before .before in
-    let g = first (then (n .item .ensures .0) (w .word .ensures)) in
-    rw (d .d2 .given .1, ← n .before .before .before .negative .ensures, ← n .before .before .size .ensures) (g .0, omega arith, g .1)
+    let n = c .before .before .before .before .before .before .before in
+    first (rw (n .before .before .before .before .d2 .given .1)) (omega arith) (then (n .item .ensures) (c .before .before .word .ensures))
 
 pub display-line-spec : {M : Type 1} → statement M
 display-line-spec =
     tie.close
     (tie.spec
-    (search needs)
-    (search needs)
     (search needs)
     (search needs)
     (search needs)

@@ -1,4 +1,5 @@
 -- What is wrong is put behind the line's number.
+use mathlib.Core.Path.{refl}
 use native.Mathlib.Omega.{arith}
 use borrow.Author.Needs.{needs}
 use Rattle.report.specs.Errors.{errorLine}
@@ -11,8 +12,7 @@ unfolding errorLine
 returns c =
     let f = c .before .before in
     let n = f .before .before .before .before in
-    let g = first (then (n .item .ensures .0) (f .fault-at .ensures .0)) in
-    (g .0, omega arith, g .1)
+    first refl (omega arith) (then (n .item .ensures) (f .fault-at .ensures))
 
 pub error-line-spec : {M : Type 1} → statement M
 error-line-spec =

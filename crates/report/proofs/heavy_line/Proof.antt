@@ -6,10 +6,7 @@ use Rattle.report.proofs.heavy_line.Statement.{statement}
 use Rattle.report.proofs.heavy_line.Tie as tie
 
 returns : tie.Need-returns
-returns c =
-    let r = c .before .before in
-    let p = r .refused .ensures in
-    rw (r .before .before .before .h .given .1) (p .0, p .1, p .2)
+returns c = rw (c .before .before .before .before .before .h .given .1) (c .before .before .refused .ensures)
 
 returns-2 : tie.Need-returns-2
 returns-2 c =
@@ -17,8 +14,7 @@ returns-2 c =
     let w = r .before .before .before .before in
     let n = w .before .before .before .before .before in
     let h = n .before .before .before .before in
-    let g = first (then (n .item .ensures .0) (then (w .word .ensures) (r .record-at .ensures .0))) in
-    rw (h .h2 .given .1) (g .0, omega arith, g .1)
+    first (rw (h .h2 .given .1)) (omega arith) (then (n .item .ensures) (then (w .word .ensures) (r .record-at .ensures)))
 
 pub heavy-line-spec : {M : Type 1} → statement M
 heavy-line-spec =

@@ -1,4 +1,5 @@
 -- The newline is put behind the word and the number.
+use mathlib.Core.Path.{refl}
 use native.Mathlib.Omega.{arith}
 use borrow.Author.Needs.{needs}
 use Rattle.report.specs.Lines.{refusedLine}
@@ -10,8 +11,7 @@ returns : tie.Need-returns
 unfolding refusedLine
 returns c =
     let b = c .before .before .before .before .before .before .before in
-    let g = first (then (b .item .ensures .0) (c .before .before .word .ensures)) in
-    (g .0, omega arith, g .1)
+    first refl (omega arith) (then (b .item .ensures) (c .before .before .word .ensures))
 
 pub refused-spec : {M : Type 1} → statement M
 refused-spec =

@@ -6,10 +6,7 @@ use Rattle.report.proofs.step_line.Statement.{statement}
 use Rattle.report.proofs.step_line.Tie as tie
 
 returns : tie.Need-returns
-returns c =
-    let r = c .before .before in
-    let p = r .refused .ensures in
-    rw (r .before .before .before .s .given .1) (p .0, p .1, p .2)
+returns c = rw (c .before .before .before .before .before .s .given .1) (c .before .before .refused .ensures)
 
 returns-2 : tie.Need-returns-2
 returns-2 c =
@@ -17,8 +14,7 @@ returns-2 c =
     let p = w .before .before .before .before .before in
     let n = p .before .before .before .before .before in
     let s = n .before .before .before .before .before in
-    let g = first (then (n .item .ensures .0) (then (p .item2 .ensures .0) (w .word .ensures))) in
-    rw (s .s2 .given .1) (g .0, omega arith, g .1)
+    first (rw (s .s2 .given .1)) (omega arith) (then (n .item .ensures) (then (p .item2 .ensures) (w .word .ensures)))
 
 pub step-line-spec : {M : Type 1} → statement M
 step-line-spec =

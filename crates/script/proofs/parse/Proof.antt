@@ -22,7 +22,7 @@ returns c =
     let a = i .before .before .before .before .args in
     let s = i .before .content .result .now in
     let line = empty-line (a .line .now) s (i .before .content .ensures) (i .if1 .taken) in
-    (line .0, nothing (a .room .now) .1 ∙ ap (λ (l : List ℕ). startingWith l (a .room .now)) (line .1))
+    (line .0, nothing (a .room .now) .buffer ∙ ap (λ (l : List ℕ). startingWith l (a .room .now)) (line .1))
 
 returns-2 : tie.Need-returns-2
 returns-2 c =
@@ -33,7 +33,7 @@ returns-2 c =
     let form = c .before .before .before .before .form-of .ensures ∙ ap formOf kind in
     let verdict = ap (λ (f : Form). verdictOf f s) (sym form) ∙ sym (c .before .before .before .verdict-of .ensures) ∙ c .before .verdict .given .1 in
     let line = wrong-line (a .line .now) s (i .before .content .ensures) (i .if1 .left) _ verdict in
-    (line .0, nothing (a .room .now) .1 ∙ ap (λ (l : List ℕ). startingWith l (a .room .now)) (line .1))
+    (line .0, nothing (a .room .now) .buffer ∙ ap (λ (l : List ℕ). startingWith l (a .room .now)) (line .1))
 
 put-record-requires : tie.Need-put-record-requires
 put-record-requires c κs =

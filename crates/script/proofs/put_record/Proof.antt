@@ -15,7 +15,7 @@ use Rattle.script.proofs.put_record.Tie as tie
 
 returns : tie.Need-returns
 unfolding recordBy
-returns c = rw (le-leb _ _ (c .if1 .taken)) (nothing (c .before .before .before .before .args .room .now) .1)
+returns c = rw (le-leb _ _ (c .if1 .taken)) (nothing (c .before .before .before .before .args .room .now) .buffer)
 
 put-pairs-requires : tie.Need-put-pairs-requires
 put-pairs-requires c κs =
@@ -30,7 +30,7 @@ returns-2 c =
     let a = i .before .before .before .before .args in
     let w = c .before .before .before .before .word .ensures in
     rw (lt-leb _ _ (i .if1 .left))
-    (c .before .before .put-pairs .ensures .1 ∙ ap (λ (l : List ℕ). startingWith (bytesOf l) (a .room .now)) w)
+    (c .before .before .put-pairs .ensures .buffer ∙ ap (λ (l : List ℕ). startingWith (bytesOf l) (a .room .now)) w)
 
 pub put-record-spec : {M : Type 1} → statement M
 put-record-spec =

@@ -2,7 +2,7 @@
 use native.Mathlib.Omega.{arith}
 use borrow.Author.Needs.{needs}
 use Rattle.showing.specs.Show.{balanceShown}
-use Rattle.place.proofs.Placed.{then}
+use Rattle.place.proofs.Placed.{within, then}
 use Rattle.showing.proofs.balance_at.Statement.{statement}
 use Rattle.showing.proofs.balance_at.Tie as tie
 
@@ -13,8 +13,8 @@ returns c =
     let n = y .before .before .before .before .before in
     let m = n .before .before .before .before .before .before in
     let w = m .before .before .before .before .before .before .before in
-    rw (← m .before .before .before .before .negative .ensures, ← n .before .before .size .ensures)
-    (then (w .word .ensures) (then (m .either .ensures .0) (then (n .item .ensures .0) (y .word2 .ensures))), omega arith)
+    let text = then (w .word .ensures) (then (m .either .ensures) (then (n .item .ensures) (y .word2 .ensures))) in
+    within (rw (m .before .before .before .before .negative .ensures, n .before .before .size .ensures)) (omega arith) text
 
 pub balance-at-spec : {M : Type 1} → statement M
 balance-at-spec =

@@ -3,15 +3,13 @@ use native.Mathlib.Omega.{arith}
 use borrow.Author.Needs.{needs}
 use borrow.Author.Tests.{eq-eqb, ne-eqb}
 use Rattle.showing.specs.Show.{dayShown}
-use Rattle.place.proofs.Placed.{then}
+use Rattle.place.proofs.Placed.{within, then}
 use Rattle.showing.proofs.day_at.Statement.{statement}
 use Rattle.showing.proofs.day_at.Tie as tie
 
 returns : tie.Need-returns
 unfolding dayShown
-returns c =
-    let w = c .before .before in
-    rw (eq-eqb _ 0 (w .before .before .before .if1 .taken)) (w .word .ensures, omega arith)
+returns c = within (rw (eq-eqb _ 0 (c .before .before .before .before .before .if1 .taken))) (omega arith) (c .before .before .word .ensures)
 
 returns-2 : tie.Need-returns-2
 unfolding dayShown
@@ -19,9 +17,9 @@ returns-2 c =
     let w = c .before .before in
     let p = w .before .before .before .before .before in
     let v = p .before .before .before .before .before in
-    let d = v .before .before .before .before .before .before in
-    rw (ne-eqb _ 0 (d .before .before .before .if1 .left))
-    (then (d .item .ensures .0) (then (v .item2 .ensures .0) (then (p .item3 .ensures .0) (w .word2 .ensures))), omega arith)
+    let d = v .before .before .before .before .before in
+    let text = then (d .item .ensures) (then (v .item2 .ensures) (then (p .item3 .ensures) (w .word2 .ensures))) in
+    within (rw (ne-eqb _ 0 (d .before .before .before .before .before .if1 .left))) (omega arith) text
 
 pub day-at-spec : {M : Type 1} → statement M
 day-at-spec =
@@ -31,7 +29,6 @@ day-at-spec =
     (search needs)
     (search needs)
     returns
-    (search needs)
     (search needs)
     (search needs)
     (search needs)

@@ -15,8 +15,8 @@ returns c =
     let s = v .before .before .before .before in
     let u = s .before .before .before .before in
     let b = u .before .before .before .before in
-    let g = first (then (b .balance-at .ensures .0) (then (u .usage-at .ensures .0) (then (s .step-at .ensures .0) (then (v .valve-at .ensures .0) (d .day-at .ensures .0))))) in
-    rw (← b .before .before .step .ensures) (g .0, omega arith, g .1)
+    let text = then (b .balance-at .ensures) (then (u .usage-at .ensures) (then (s .step-at .ensures) (then (v .valve-at .ensures) (d .day-at .ensures)))) in
+    first (rw (b .before .before .step .ensures)) (omega arith) text
 
 pub show-spec : {M : Type 1} → statement M
 show-spec =

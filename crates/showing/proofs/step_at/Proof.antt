@@ -2,14 +2,12 @@
 use native.Mathlib.Omega.{arith}
 use borrow.Author.Needs.{needs}
 use Rattle.showing.specs.Show.{stepShown}
-use Rattle.place.proofs.Placed.{then}
+use Rattle.place.proofs.Placed.{within, then}
 use Rattle.showing.proofs.step_at.Statement.{statement}
 use Rattle.showing.proofs.step_at.Tie as tie
 
 returns : tie.Need-returns
-returns c =
-    let u = c .before .before in
-    rw (u .before .before .before .s .given .1) (u .unstepped-at .ensures .0, omega arith)
+returns c = rw (c .before .before .before .before .before .s .given .1) (c .before .before .unstepped-at .ensures)
 
 returns-2 : tie.Need-returns-2
 unfolding stepShown
@@ -17,8 +15,7 @@ returns-2 c =
     let w = c .before .before in
     let p = w .before .before .before .before .before in
     let n = p .before .before .before .before .before in
-    let s = n .before .before .before .before .before in
-    rw (s .s2 .given .1) (then (n .item .ensures .0) (then (p .item2 .ensures .0) (w .word .ensures)), omega arith)
+    within (rw (n .before .before .before .before .before .before .s2 .given .1)) (omega arith) (then (n .item .ensures) (then (p .item2 .ensures) (w .word .ensures)))
 
 pub step-at-spec : {M : Type 1} → statement M
 step-at-spec =

@@ -4,7 +4,6 @@ use native.Mathlib.Omega.{arith}
 use borrow.Author.Needs.{needs}
 use borrow.Fn.Kinds.{In}
 use borrow.Fn.PlainCycle.{Measures, is, falls, and}
-use mathlib.Core.List.{[]}
 use Rattle.text.specs.Decimal.{decimal}
 use Rattle.text.proofs.Behind.{nothing, room-behind, completed}
 use Rattle.text.proofs.Digits.{decimal-one, decimal-more, decimal-most}
@@ -24,46 +23,19 @@ module _ (t : ℕ) where
   abbrev below : In 1 ps
   below = and 1 ps (falls 1 ps _<_ μ t) Pre
 
-  add-out : walk.Need-add-out (below, Post) here Post
-  add-out c = search needs
-
-  cast-out : walk.Need-cast-out (below, Post) here Post
-  cast-out c = search needs
-
-  slice-write-out : walk.Need-slice-write-out (below, Post) here Post
-  slice-write-out c = search needs
-
-  same-length : walk.Need-same-length (below, Post) here Post
-  same-length c = search needs
-
   returns : walk.Need-returns (below, Post) here Post
   returns c =
       let s = c .before .before in
       let x = s .args .x in
       let d = s .args .out .now in
-      completed 20 [] (48 + x) d (decimal-one x (c .if1 .taken)) (decimal-most x) (s .pre .1) (nothing d)
-
-  put-decimal-requires : walk.Need-put-decimal-requires (below, Post) here Post
-  put-decimal-requires c κs = search needs
-
-  add-out-2 : walk.Need-add-out-2 (below, Post) here Post
-  add-out-2 c = search needs
-
-  cast-out-2 : walk.Need-cast-out-2 (below, Post) here Post
-  cast-out-2 c = search needs
+      completed 20 (48 + x) (decimal-one x (c .if1 .taken)) (decimal-most x) (s .pre .1) (nothing d)
 
   slice-write-out-2 : walk.Need-slice-write-out-2 (below, Post) here Post
   slice-write-out-2 c =
       let x = c .before .before .before .before .before .before .args .x in
       let m = decimal-more x (c .before .before .before .before .if1 .left) (omega arith) in
-      let r = room-behind 20 (decimal (x / 10)) (48 + x % 10) m (decimal-most x) (c .before .before .put-decimal .ensures .0) in
+      let r = room-behind 20 (decimal (x / 10)) (48 + x % 10) m (decimal-most x) (c .before .before .put-decimal .ensures .count) in
       omega arith
-
-  add-result : walk.Need-add-result (below, Post) here Post
-  add-result c = search needs
-
-  same-length-2 : walk.Need-same-length-2 (below, Post) here Post
-  same-length-2 c = search needs
 
   returns-2 : walk.Need-returns-2 (below, Post) here Post
   returns-2 c =
@@ -71,19 +43,19 @@ module _ (t : ℕ) where
       let x = s .args .x in
       let p = c .before .before .put-decimal .ensures in
       let m = decimal-more x (c .before .before .before .before .if1 .left) (omega arith) in
-      completed 20 (decimal (x / 10)) (48 + x % 10) (s .args .out .now) m (decimal-most x) (s .pre .1) (p .0, p .3)
+      completed 20 (48 + x % 10) m (decimal-most x) (s .pre .1) p
 
 pub +put-decimal-spec : {M : Type 1} → statement M
 +put-decimal-spec = close μ λ t. walk.spec (below t, Post) (here t) Post
-    (add-out t)
-    (cast-out t)
-    (slice-write-out t)
-    (same-length t)
+    (search needs)
+    (search needs)
+    (search needs)
+    (search needs)
     (returns t)
-    (put-decimal-requires t)
-    (add-out-2 t)
-    (cast-out-2 t)
+    (search needs)
+    (search needs)
+    (search needs)
     (slice-write-out-2 t)
-    (add-result t)
-    (same-length-2 t)
+    (search needs)
+    (λ c. search needs)
     (returns-2 t)

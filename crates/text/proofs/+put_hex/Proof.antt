@@ -4,7 +4,6 @@ use native.Mathlib.Omega.{arith}
 use borrow.Author.Needs.{needs}
 use borrow.Fn.Kinds.{In}
 use borrow.Fn.PlainCycle.{Measures, is, falls, and}
-use mathlib.Core.List.{[]}
 use Rattle.text.specs.Hex.{glyph, hexadecimal}
 use Rattle.text.proofs.Behind.{nothing, room-behind, completed}
 use Rattle.text.proofs.Digits.{hexadecimal-one, hexadecimal-more, hexadecimal-most}
@@ -25,41 +24,20 @@ module _ (t : ℕ) where
   abbrev below : In 1 ps
   below = and 1 ps (falls 1 ps _<_ μ t) Pre
 
-  glyph-of-requires : walk.Need-glyph-of-requires (Asked, Learnt, below, Post) here Post
-  glyph-of-requires c κs = search needs
-
-  slice-write-out : walk.Need-slice-write-out (Asked, Learnt, below, Post) here Post
-  slice-write-out c = search needs
-
-  same-length : walk.Need-same-length (Asked, Learnt, below, Post) here Post
-  same-length c = search needs
-
   returns : walk.Need-returns (Asked, Learnt, below, Post) here Post
   returns c =
       let s = c .before .before .before in
       let x = s .args .x in
       let d = s .args .out .now in
       let g = c .glyph-of in
-      completed 8 [] (g .result) d (rw (g .ensures) (hexadecimal-one x (c .before .if1 .taken))) (hexadecimal-most x) (s .pre .1) (nothing d)
-
-  put-hex-requires : walk.Need-put-hex-requires (Asked, Learnt, below, Post) here Post
-  put-hex-requires c κs = search needs
-
-  glyph-of-requires-2 : walk.Need-glyph-of-requires-2 (Asked, Learnt, below, Post) here Post
-  glyph-of-requires-2 c κs = search needs
+      completed 8 (g .result) (rw (g .ensures) (hexadecimal-one x (c .before .if1 .taken))) (hexadecimal-most x) (s .pre .1) (nothing d)
 
   slice-write-out-2 : walk.Need-slice-write-out-2 (Asked, Learnt, below, Post) here Post
   slice-write-out-2 c =
       let x = c .before .before .before .before .before .before .before .args .x in
       let m = hexadecimal-more x (c .before .before .before .before .before .if1 .left) (omega arith) in
-      let r = room-behind 8 (hexadecimal (x / 16)) (glyph (x % 16)) m (hexadecimal-most x) (c .before .before .before .put-hex .ensures .0) in
+      let r = room-behind 8 (hexadecimal (x / 16)) (glyph (x % 16)) m (hexadecimal-most x) (c .before .before .before .put-hex .ensures .count) in
       omega arith
-
-  add-result : walk.Need-add-result (Asked, Learnt, below, Post) here Post
-  add-result c = search needs
-
-  same-length-2 : walk.Need-same-length-2 (Asked, Learnt, below, Post) here Post
-  same-length-2 c = search needs
 
   returns-2 : walk.Need-returns-2 (Asked, Learnt, below, Post) here Post
   returns-2 c =
@@ -68,17 +46,17 @@ module _ (t : ℕ) where
       let g = c .glyph-of2 in
       let p = c .before .before .before .put-hex .ensures in
       let m = hexadecimal-more x (c .before .before .before .before .before .if1 .left) (omega arith) in
-      completed 8 (hexadecimal (x / 16)) (g .result) (s .args .out .now) (rw (g .ensures) m) (hexadecimal-most x) (s .pre .1) (p .0, p .3)
+      completed 8 (g .result) (rw (g .ensures) m) (hexadecimal-most x) (s .pre .1) p
 
 pub +put-hex-spec : {M : Type 1} → statement M
 +put-hex-spec = close μ λ t. walk.spec (Asked, Learnt, below t, Post) (here t) Post
-    (glyph-of-requires t)
-    (slice-write-out t)
-    (same-length t)
+    (search needs)
+    (search needs)
+    (search needs)
     (returns t)
-    (put-hex-requires t)
-    (glyph-of-requires-2 t)
+    (search needs)
+    (search needs)
     (slice-write-out-2 t)
-    (add-result t)
-    (same-length-2 t)
+    (search needs)
+    (λ c. search needs)
     (returns-2 t)

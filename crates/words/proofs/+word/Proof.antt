@@ -25,21 +25,9 @@ module _ (t : ℕ) where
   abbrev below : In 1 ps
   below = and 1 ps (falls 1 ps _<_ μ t) Pre
 
-  until-requires : walk.Need-until-requires (until-reads.Asked, until-reads.Learnt, past-reads.Asked, past-reads.Learnt, below, Post) here Post
-  until-requires c κs = search needs
-
   returns : walk.Need-returns (until-reads.Asked, until-reads.Learnt, past-reads.Asked, past-reads.Learnt, below, Post) here Post
   unfolding wordAt
   returns c = rw (c .before .if1 .taken) (c .until .ensures)
-
-  past-requires : walk.Need-past-requires (until-reads.Asked, until-reads.Learnt, past-reads.Asked, past-reads.Learnt, below, Post) here Post
-  past-requires c κs = search needs
-
-  sub-word : walk.Need-sub-word (until-reads.Asked, until-reads.Learnt, past-reads.Asked, past-reads.Learnt, below, Post) here Post
-  sub-word c = search needs
-
-  word-requires : walk.Need-word-requires (until-reads.Asked, until-reads.Learnt, past-reads.Asked, past-reads.Learnt, below, Post) here Post
-  word-requires c κs = search needs
 
   returns-2 : walk.Need-returns-2 (until-reads.Asked, until-reads.Learnt, past-reads.Asked, past-reads.Learnt, below, Post) here Post
   returns-2 c =
@@ -50,9 +38,9 @@ module _ (t : ℕ) where
 
 pub +word-spec : {M : Type 1} → statement M
 +word-spec = close μ λ t. walk.spec (until-reads.Asked, until-reads.Learnt, past-reads.Asked, past-reads.Learnt, below t, Post) (here t) Post
-    (until-requires t)
+    (search needs)
     (returns t)
-    (past-requires t)
-    (sub-word t)
-    (word-requires t)
+    (search needs)
+    (search needs)
+    (search needs)
     (returns-2 t)

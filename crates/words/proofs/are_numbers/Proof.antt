@@ -17,24 +17,12 @@ abbrev μ-loop : tie.MeasureT-loop
 loop-holds : tie.Need-loop-holds Inv-loop μ-loop
 loop-holds c = refl
 
-word-requires : tie.Need-word-requires Inv-loop μ-loop
-word-requires c κs = search needs
-
-is-number-requires : tie.Need-is-number-requires Inv-loop μ-loop
-is-number-requires c κs = search needs
-
 returns : tie.Need-returns Inv-loop μ-loop
 returns c =
     let l = c .before .before .before .before in
     let s = l .before .before .args .s .now in
     let other = ap isNumber (sym (c .before .before .word .ensures)) ∙ sym (c .before .is-number .ensures) ∙ not-true (c .before .is-number .result) (c .if1 .taken) in
     sym (rw other at (number-at s (l .loop .k) (omega arith))) ∙ l .loop .inv
-
-sub-k : tie.Need-sub-k Inv-loop μ-loop
-sub-k c = search needs
-
-loop-less : tie.Need-loop-less Inv-loop μ-loop
-loop-less c = search needs
 
 loop-again : tie.Need-loop-again Inv-loop μ-loop
 loop-again c =
@@ -57,10 +45,10 @@ are-numbers-spec =
     Inv-loop
     μ-loop
     loop-holds
-    word-requires
-    is-number-requires
+    (search needs)
+    (search needs)
     returns
-    sub-k
-    loop-less
+    (search needs)
+    (search needs)
     loop-again
     returns-2)

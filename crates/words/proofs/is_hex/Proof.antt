@@ -24,24 +24,12 @@ loop-holds : tie.Need-loop-holds Inv-loop μ-loop
 unfolding isHex
 loop-holds c = (search needs, rw (eq-eqb _ _ (c .if1 .left)))
 
-shared-slice-read-is-hex-digit : tie.Need-shared-slice-read-is-hex-digit Inv-loop μ-loop
-shared-slice-read-is-hex-digit c = search needs
-
-is-hex-digit-requires : tie.Need-is-hex-digit-requires Inv-loop μ-loop
-is-hex-digit-requires c κs = search needs
-
 returns-2 : tie.Need-returns-2 Inv-loop μ-loop
 returns-2 c =
     let l = c .before .before .before .before in
     let w = l .before .before .before .args .w .now in
     let other = sym (c .before .is-hex-digit .ensures) ∙ not-true (c .before .is-hex-digit .result) (c .if2 .taken) in
     sym (rw other at (hex-digit-at w (l .loop .i) (omega arith))) ∙ l .loop .inv .1
-
-add-i : tie.Need-add-i Inv-loop μ-loop
-add-i c = search needs
-
-loop-less : tie.Need-loop-less Inv-loop μ-loop
-loop-less c = search needs
 
 loop-again : tie.Need-loop-again Inv-loop μ-loop
 loop-again c =
@@ -65,10 +53,10 @@ is-hex-spec =
     μ-loop
     returns
     loop-holds
-    shared-slice-read-is-hex-digit
-    is-hex-digit-requires
+    (search needs)
+    (search needs)
     returns-2
-    add-i
-    loop-less
+    (search needs)
+    (search needs)
     loop-again
     returns-3)

@@ -22,24 +22,12 @@ returns c = number-none (c .before .before .args .w .now) (c .if1 .taken)
 loop-holds : tie.Need-loop-holds Inv-loop μ-loop
 loop-holds c = (search needs, sym (number-some (c .before .before .args .w .now) (omega arith)))
 
-shared-slice-read-is-digit : tie.Need-shared-slice-read-is-digit Inv-loop μ-loop
-shared-slice-read-is-digit c = search needs
-
-is-digit-requires : tie.Need-is-digit-requires Inv-loop μ-loop
-is-digit-requires c κs = search needs
-
 returns-2 : tie.Need-returns-2 Inv-loop μ-loop
 returns-2 c =
     let l = c .before .before .before .before in
     let w = l .before .before .before .args .w .now in
     let other = sym (c .before .is-digit .ensures) ∙ not-true (c .before .is-digit .result) (c .if2 .taken) in
     sym (rw other at (digit-at w (l .loop .i) (omega arith))) ∙ l .loop .inv .1
-
-add-i : tie.Need-add-i Inv-loop μ-loop
-add-i c = search needs
-
-loop-less : tie.Need-loop-less Inv-loop μ-loop
-loop-less c = search needs
 
 loop-again : tie.Need-loop-again Inv-loop μ-loop
 loop-again c =
@@ -63,10 +51,10 @@ is-number-spec =
     μ-loop
     returns
     loop-holds
-    shared-slice-read-is-digit
-    is-digit-requires
+    (search needs)
+    (search needs)
     returns-2
-    add-i
-    loop-less
+    (search needs)
+    (search needs)
     loop-again
     returns-3)

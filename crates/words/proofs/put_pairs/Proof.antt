@@ -3,7 +3,8 @@ use mathlib.Core.Path.{_≡_, refl}
 use Prim.Native.Nat.{_≤_, _-_, _/_}
 use native.Mathlib.Omega.{arith}
 use lib.ListN.{length, length-set}
-use Rattle.text.proofs.Behind.{Put, nothing, byte-behind}
+use Rattle.text.specs.Written.{Written}
+use Rattle.text.proofs.Behind.{nothing, byte-behind}
 use Rattle.words.specs.Hex.{pairAt, pairsTo, bytesOf}
 use Rattle.words.proofs.Digits.{pairs-none, pairs-more}
 use borrow.Author.Needs.{needs}
@@ -11,7 +12,7 @@ use Rattle.words.proofs.put_pairs.Statement.{statement}
 use Rattle.words.proofs.put_pairs.Tie as tie
 
 abbrev Inv-loop : tie.InvT-loop
-Inv-loop w out₀ n i₀ out i = (i ≤ n) × (n ≡ length w / 2) × (length out ≡ length out₀) × Put (pairsTo w i) out₀ i out
+Inv-loop w out₀ n i₀ out i = (i ≤ n) × (n ≡ length w / 2) × (length out ≡ length out₀) × Written (pairsTo w i) i out₀ i out
 
 abbrev μ-loop : tie.MeasureT-loop
 μ-loop w out₀ n i₀ out i = n - i
@@ -19,29 +20,14 @@ abbrev μ-loop : tie.MeasureT-loop
 loop-holds : tie.Need-loop-holds Inv-loop μ-loop
 loop-holds c = (search needs, refl, refl, rw pairs-none (nothing (c .before .before .args .out .now)))
 
-pair-at-requires : tie.Need-pair-at-requires Inv-loop μ-loop
-pair-at-requires c κs = search needs
-
-slice-write-out : tie.Need-slice-write-out Inv-loop μ-loop
-slice-write-out c = search needs
-
-add-i : tie.Need-add-i Inv-loop μ-loop
-add-i c = search needs
-
-loop-less : tie.Need-loop-less Inv-loop μ-loop
-loop-less c = search needs
-
 loop-again : tie.Need-loop-again Inv-loop μ-loop
 loop-again c =
     let l = c .before .before in
     let a = l .before .before .before .args in
     let w = a .w .now in
     let i = l .loop .i in
-    let g = byte-behind (pairsTo w i) (pairAt w i) (a .out .now) (l .loop .inv .3) (omega arith) in
+    let g = byte-behind (pairAt w i) (l .loop .inv .3) (omega arith) in
     (omega arith, refl, simp length-set (l .loop .inv .2), rw (pairs-more w i, c .pair-at .ensures) g)
-
-same-length : tie.Need-same-length Inv-loop μ-loop
-same-length c = search needs
 
 returns : tie.Need-returns Inv-loop μ-loop
 unfolding bytesOf
@@ -59,10 +45,10 @@ put-pairs-spec =
     Inv-loop
     μ-loop
     loop-holds
-    pair-at-requires
-    slice-write-out
-    add-i
-    loop-less
+    (search needs)
+    (search needs)
+    (search needs)
+    (search needs)
     loop-again
-    same-length
+    (search needs)
     returns)

@@ -22,24 +22,12 @@ returns c = sym (other-length (c .before .args .a .now) (c .before .args .b .now
 loop-holds : tie.Need-loop-holds Inv-loop μ-loop
 loop-holds c = (search needs, search needs, refl)
 
-shared-slice-read-if2 : tie.Need-shared-slice-read-if2 Inv-loop μ-loop
-shared-slice-read-if2 c = search needs
-
-shared-slice-read-if2-2 : tie.Need-shared-slice-read-if2-2 Inv-loop μ-loop
-shared-slice-read-if2-2 c = search needs
-
 returns-2 : tie.Need-returns-2 Inv-loop μ-loop
 returns-2 c =
     let l = c .before .before .before .before in
     let a = l .before .before .args in
     let here = same-at (a .a .now) (a .b .now) (l .loop .i) (omega arith) (omega arith) in
     sym (rw (ne-eqb _ _ (c .if2 .taken)) at here) ∙ l .loop .inv .2
-
-add-i : tie.Need-add-i Inv-loop μ-loop
-add-i c = search needs
-
-loop-less : tie.Need-loop-less Inv-loop μ-loop
-loop-less c = search needs
 
 loop-again : tie.Need-loop-again Inv-loop μ-loop
 loop-again c =
@@ -63,10 +51,10 @@ same-spec =
     μ-loop
     returns
     loop-holds
-    shared-slice-read-if2
-    shared-slice-read-if2-2
+    (search needs)
+    (search needs)
     returns-2
-    add-i
-    loop-less
+    (search needs)
+    (search needs)
     loop-again
     returns-3)

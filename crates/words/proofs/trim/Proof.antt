@@ -20,15 +20,6 @@ abbrev μ-loop : tie.MeasureT-loop
 loop-holds : tie.Need-loop-holds Inv-loop μ-loop
 loop-holds c = (search needs, ap trimmed (take-length (c .before .args .s .now)))
 
-sub-last : tie.Need-sub-last Inv-loop μ-loop
-sub-last c = search needs
-
-shared-slice-read-last : tie.Need-shared-slice-read-last Inv-loop μ-loop
-shared-slice-read-last c = search needs
-
-is-blank-requires : tie.Need-is-blank-requires Inv-loop μ-loop
-is-blank-requires c κs = search needs
-
 returns : tie.Need-returns Inv-loop μ-loop
 returns c =
     let l = c .before .before .before .before in
@@ -36,12 +27,6 @@ returns c =
     let n = l .loop .n in
     let other = sym (c .before .is-blank .ensures) ∙ not-true (c .before .is-blank .result) (c .if1 .taken) in
     (l .loop .inv .0, sym (trim-other s n (l .loop .inv .0) (omega arith) other) ∙ l .loop .inv .1)
-
-sub-n : tie.Need-sub-n Inv-loop μ-loop
-sub-n c = search needs
-
-loop-less : tie.Need-loop-less Inv-loop μ-loop
-loop-less c = search needs
 
 loop-again : tie.Need-loop-again Inv-loop μ-loop
 loop-again c =
@@ -64,11 +49,11 @@ trim-spec =
     Inv-loop
     μ-loop
     loop-holds
-    sub-last
-    shared-slice-read-last
-    is-blank-requires
+    (search needs)
+    (search needs)
+    (search needs)
     returns
-    sub-n
-    loop-less
+    (search needs)
+    (search needs)
     loop-again
     returns-2)

@@ -19,18 +19,6 @@ abbrev μ-loop : tie.MeasureT-loop
 loop-holds : tie.Need-loop-holds Inv-loop μ-loop
 loop-holds c = (search needs, rw value-none)
 
-shared-slice-read-grown : tie.Need-shared-slice-read-grown Inv-loop μ-loop
-shared-slice-read-grown c = search needs
-
-grown-requires : tie.Need-grown-requires Inv-loop μ-loop
-grown-requires c κs = search needs
-
-add-i : tie.Need-add-i Inv-loop μ-loop
-add-i c = search needs
-
-loop-less : tie.Need-loop-less Inv-loop μ-loop
-loop-less c = search needs
-
 loop-again : tie.Need-loop-again Inv-loop μ-loop
 loop-again c =
     let l = c .before .before .before in
@@ -59,9 +47,9 @@ value-spec =
     Inv-loop
     μ-loop
     loop-holds
-    shared-slice-read-grown
-    grown-requires
-    add-i
-    loop-less
+    (search needs)
+    (search needs)
+    (search needs)
+    (search needs)
     loop-again
     returns)
