@@ -89,12 +89,13 @@ impl Fall {
     pub(crate) fn strike(self, hit: bool, code: u32, closes: bool) -> Fall
         ensures { λ r. ⌜ r ≡ struck self hit code closes ⌝ }
     {
-        let shuts = hit & (closes & self.opened);
-        let codes = self.codes
-            .note_if(hit, code)
-            .note_if(shuts, Codes::VALVE_CLOSED);
+        if !hit {
+            return self;
+        }
+        let shuts = closes & self.opened;
+        let codes = self.codes.note(code).note_if(shuts, Codes::VALVE_CLOSED);
         Fall {
-            opened: self.opened & !(hit & closes),
+            opened: self.opened & !closes,
             codes,
         }
     }

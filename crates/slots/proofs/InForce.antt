@@ -94,6 +94,12 @@ module _ (w : World) where
         let l = and-left (slotAt s k .loaded) _ in-slot in
         rw l at (cases {P = slotGood w (slotAt s k) ≡ true} (eqb k 1) (λ e. rw e g) (λ e. rw e h))
 
+  pub no-slot : (s : Slots) (d : ℕ) → (slotOn w s d ≡ 1 → ⊥) → (slotOn w s d ≡ 2 → ⊥) → slotOn w s d ≡ 0
+  unfolding slotOn
+  no-slot s d g h = cases (inSlot w (s .one) d)
+      (λ a. absurd (g (rw a)))
+      (λ a. cases (inSlot w (s .two) d) (λ b. absurd (h (rw (a, b)))) (λ b. rw (a, b)))
+
   pub none-at : (s : Slots) (d : ℕ) → slotOn w s d ≡ 0 → planOn w s d ≡ none
   unfolding planOn
   none-at s d h = rw h
