@@ -13,7 +13,8 @@ use Rattle.account.specs.Codes.{noCodes, noteAll}
 use Rattle.slots.specs.World.{World, real}
 use Rattle.records.specs.Words.{wordCount, noWords}
 use Rattle.state.specs.declared.Registers.{Registers}
-use Rattle.state.specs.State.{State, stateOf, registersOf, fresh}
+use Rattle.state.specs.declared.Stage.{Stage}
+use Rattle.state.specs.State.{State, stateOf, alone, registersOf, fresh}
 use Rattle.state.specs.Turn.{turn, turnCodes, turnWords}
 use Rattle.meter.specs.declared.Machine.{Machine}
 use Rattle.meter.specs.declared.Meter.{Meter}
@@ -105,6 +106,10 @@ refusedOf a n = record { machine = a; done = record { answer = Refused n; codes 
 -- accepted with new registers and its codes
 abbrev pub acceptedOf : Registers → Codes → Outcome
 acceptedOf r k = record { machine = record { registers = r }; done = record { answer = Accepted; codes = k } }
+
+-- accepted with the effect of a call on registers whose day is turned; no effect looks at a record
+abbrev pub effectBy : Stage → Call → Outcome
+effectBy t c = acceptedOf (registersOf (effectOf real (alone (t .registers)) c)) (noteAll (t .codes) (codesOf real (alone (t .registers)) c))
 
 -- refused by a stamp or by a test of the call's own; the accepting cases do not occur
 abbrev pub declinedOf : Machine → Dated → Outcome

@@ -9,6 +9,7 @@ use crate::Outcome;
 use crate::Pulses;
 use crate::Recharge;
 use crate::Tick;
+use crate::effects;
 use account::Codes;
 use answer::Answer;
 use calendar::Dated;
@@ -30,25 +31,19 @@ impl Machine {
         let Answer::Accepted = a else {
             return self.denied(a);
         };
-        let mut s = self.registers;
-        let mut codes = Codes::none();
-        let mut f = was;
-        if self.registers.clock.date < date {
-            f = self.registers.slots.force(date);
-            let t = self.registers.turn(words, was, f, p.stamp);
-            s = t.registers;
-            codes = t.codes;
+        if date <= self.registers.clock.date {
+            return effects::pulsed(self.registers, Codes::none(), was, p);
         }
-        let after = s.pulsed(f, p.stamp, p.count, codes);
-        Machine::accepted(after.registers, after.codes)
+        let is = self.registers.slots.force(date);
+        let t = self.registers.turn(words, was, is, p.stamp);
+        effects::pulsed(t.registers, t.codes, is, p)
     }
 
     // A recharge bought at a counter.
     pub fn recharge(self, words: &mut Words, p: Recharge) -> Outcome
         ensures { λ r. ⌜ Answers (meterOf self (now (words .entry))) (rechargeCall p) r (now (words .exit)) ⌝ }
     {
-        let was = self.registers.slots.force(self.registers.clock.date);
-        let d = self.registers.admit(words, was.slot != 0, p.stamp);
+        let d = self.registers.admitted(words, p.stamp);
         let Dated::On(date) = d else {
             return self.declined(d);
         };
@@ -56,19 +51,14 @@ impl Machine {
         let Answer::Accepted = a else {
             return self.denied(a);
         };
-        let is = self.registers.slots.force(date);
-        let t = self.registers.turn(words, was, is, p.stamp);
-        let mut next = t.registers;
-        next.account = next.account.recharged(p.amount, p.serial);
-        Machine::accepted(next, t.codes.note(Codes::RECHARGED))
+        effects::recharged(self.registers.turned(words, date, p.stamp), p)
     }
 
     // A plan loaded into a slot; the record is a lent slice of any length.
     pub fn load(self, words: &mut Words, p: Load, bytes: &[u8]) -> Outcome
         ensures { λ r. ⌜ Answers (meterOf self (now (words .entry))) (loadCall p (now (bytes .entry))) r (now (words .exit)) ⌝ }
     {
-        let was = self.registers.slots.force(self.registers.clock.date);
-        let d = self.registers.admit(words, was.slot != 0, p.stamp);
+        let d = self.registers.admitted(words, p.stamp);
         let Dated::On(date) = d else {
             return self.declined(d);
         };
@@ -77,85 +67,60 @@ impl Machine {
         let Answer::Accepted = a else {
             return self.denied(a);
         };
-        let is = self.registers.slots.force(date);
-        let t = self.registers.turn(words, was, is, p.stamp);
-        let mut next = t.registers;
-        next.slots = next.slots.loaded(p.slot, r.plan);
-        Machine::accepted(next, t.codes.note(Codes::SET))
+        effects::loaded(self.registers.turned(words, date, p.stamp), p.slot, r.plan)
     }
 
     // The two alarms set, in whole yuan.
     pub fn alarms(self, words: &mut Words, p: Alarms) -> Outcome
         ensures { λ r. ⌜ Answers (meterOf self (now (words .entry))) (alarmsCall p) r (now (words .exit)) ⌝ }
     {
-        let was = self.registers.slots.force(self.registers.clock.date);
-        let d = self.registers.admit(words, was.slot != 0, p.stamp);
+        let d = self.registers.admitted(words, p.stamp);
         let Dated::On(date) = d else {
             return self.declined(d);
         };
         if !account::alarms_good(p.one, p.two) {
             return self.refused(23);
         }
-        let is = self.registers.slots.force(date);
-        let t = self.registers.turn(words, was, is, p.stamp);
-        let mut next = t.registers;
-        next.account = next.account.alarmed(p.one, p.two);
-        Machine::accepted(next, t.codes.note(Codes::SET))
+        effects::alarmed(self.registers.turned(words, date, p.stamp), p)
     }
 
     // A command of the master station: 0 forbids, 1 allows.
     pub fn command(self, words: &mut Words, p: Command) -> Outcome
         ensures { λ r. ⌜ Answers (meterOf self (now (words .entry))) (commandCall p) r (now (words .exit)) ⌝ }
     {
-        let was = self.registers.slots.force(self.registers.clock.date);
-        let d = self.registers.admit(words, was.slot != 0, p.stamp);
+        let d = self.registers.admitted(words, p.stamp);
         let Dated::On(date) = d else {
             return self.declined(d);
         };
         if p.code > 1 {
             return self.refused(21);
         }
-        let allow = p.code == 1;
-        let is = self.registers.slots.force(date);
-        let t = self.registers.turn(words, was, is, p.stamp);
-        let mut next = t.registers;
-        let codes = next.valve.command_codes(allow, t.codes);
-        next.valve = next.valve.commanded(allow);
-        Machine::accepted(next, codes)
+        effects::commanded(self.registers.turned(words, date, p.stamp), p)
     }
 
     // The household's key.
     pub fn key(self, words: &mut Words, p: Key) -> Outcome
         ensures { λ r. ⌜ Answers (meterOf self (now (words .entry))) (keyCall p) r (now (words .exit)) ⌝ }
     {
-        let was = self.registers.slots.force(self.registers.clock.date);
-        let d = self.registers.admit(words, was.slot != 0, p.stamp);
+        let d = self.registers.admitted(words, p.stamp);
         let Dated::On(date) = d else {
             return self.declined(d);
         };
         if !self.registers.key_allowed(date) {
             return self.refused(22);
         }
-        let is = self.registers.slots.force(date);
-        let t = self.registers.turn(words, was, is, p.stamp);
-        let mut next = t.registers;
-        let codes = next.valve.key_codes(t.codes);
-        next.valve = next.valve.set(true);
-        Machine::accepted(next, codes)
+        effects::opened(self.registers.turned(words, date, p.stamp))
     }
 
     // The clock only.
     pub fn tick(self, words: &mut Words, p: Tick) -> Outcome
         ensures { λ r. ⌜ Answers (meterOf self (now (words .entry))) (tickCall p) r (now (words .exit)) ⌝ }
     {
-        let was = self.registers.slots.force(self.registers.clock.date);
-        let d = self.registers.admit(words, was.slot != 0, p.stamp);
+        let d = self.registers.admitted(words, p.stamp);
         let Dated::On(date) = d else {
             return self.declined(d);
         };
-        let is = self.registers.slots.force(date);
-        let t = self.registers.turn(words, was, is, p.stamp);
-        Machine::accepted(t.registers, t.codes)
+        effects::none(self.registers.turned(words, date, p.stamp))
     }
 
     // Any of the calls; a load alone looks at the bytes.
@@ -163,13 +128,13 @@ impl Machine {
         ensures { λ r. ⌜ Answers (meterOf self (now (words .entry))) (callOf c (now (bytes .entry))) r (now (words .exit)) ⌝ }
     {
         match c {
-            Call::Pulses(p) => self.pulses(words, p),
-            Call::Recharge(p) => self.recharge(words, p),
-            Call::Load(p) => self.load(words, p, bytes),
-            Call::Alarms(p) => self.alarms(words, p),
-            Call::Command(p) => self.command(words, p),
-            Call::Key(p) => self.key(words, p),
-            Call::Tick(p) => self.tick(words, p),
+            Call::Pulses(p) => return self.pulses(words, p),
+            Call::Recharge(p) => return self.recharge(words, p),
+            Call::Load(p) => return self.load(words, p, bytes),
+            Call::Alarms(p) => return self.alarms(words, p),
+            Call::Command(p) => return self.command(words, p),
+            Call::Key(p) => return self.key(words, p),
+            Call::Tick(p) => return self.tick(words, p),
         }
     }
 }

@@ -27,7 +27,6 @@ use Rattle.state.specs.declared.Registers.{Registers}
 use Rattle.state.specs.State.{State, stateWith, stateOf, alone, registersOf, withClock}
 use Rattle.state.specs.Bounds.{stampGood, noClock, isFresh, stateGood, bounded}
 use Rattle.state.specs.Turn.{turn, turnedTo, turnCodes, turnWords}
-use Rattle.state.specs.Pulsed.{pulsed, pulseCodes}
 use Rattle.state.specs.Refusals.{stampRefusal, mostPulses, pulseRefusal}
 use Rattle.state.proofs.Parts.{Parts, total-in, total-low, state-in, state-out, fresh-parts, bounded-state}
 use Rattle.state.proofs.Turned.{turn-state, turn-volumes}
@@ -145,25 +144,10 @@ alone-good m h =
     none-fresh : isFreshHeld noneHeld ≡ true
     none-fresh = refl
 
-pub pulsed-alone : (m : State) (n : ℕ) → registersOf (pulsed real (alone (registersOf m)) n) ≡ registersOf (pulsed real m n)
-unfolding pulsed registersOf stateWith
-pulsed-alone m n = refl
-
-pub codes-alone : (m : State) (n : ℕ) → pulseCodes real (alone (registersOf m)) n ≡ pulseCodes real m n
-unfolding pulseCodes registersOf stateWith
-codes-alone m n = refl
-
--- the slot in force on the stamp's date, after the turn and before it
+-- the slot in force on the stamp's date is that after the turn
 pub later-force : (m : State) (s : Stamp) → forceOn real (m .slots) (s .date) ≡ forceOn real (turn real m s .slots) (s .date)
 unfolding turn turnedTo slotsTurned slotOn
 later-force m s = cases (ltb (m .clock .date) (s .date)) (λ h. rw h) (λ h. rw h)
-
-pub same-force :
-    (m : State) (s : Stamp) → stampRefusal real m s ≡ Accepted → s .date ≤ m .clock .date →
-    forceOn real (m .slots) (m .clock .date) ≡ forceOn real (turn real m s .slots) (s .date)
-same-force m s h l =
-    let e : m .clock .date ≡ s .date = omega (arith, not-before-date (m .clock) s (stamp-passed real m s h .2)) in
-    ap (forceOn real (m .slots)) e ∙ later-force m s
 
 -- an account within its bounds
 pub small-balance : (m : State) → Parts real m → Small (m .account .balance .0)

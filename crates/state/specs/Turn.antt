@@ -1,16 +1,19 @@
 -- Document 01, "Each accepted call first turns the day."
+use mathlib.Core.Path.{_≡_}
 use mathlib.Core.Bool.{cond}
 use mathlib.Core.List.{List, []}
 use Prim.Native.Nat.{ℕ}
 use lib.Dec.{ltb, eqb}
 use Rattle.calendar.specs.declared.Stamp.{Stamp}
+use Rattle.account.specs.Codes.{noCodes, noteAll}
 use Rattle.account.specs.Valve.{valveKept, expiryCodes}
 use Rattle.records.specs.Turn.{opened, closed}
 use Rattle.records.specs.Moves.{closedWords}
-use Rattle.slots.specs.World.{World}
+use Rattle.slots.specs.World.{World, real}
 use Rattle.slots.specs.Slots.{someForce, slotsTurned}
 use Rattle.state.specs.declared.Registers.{Registers}
-use Rattle.state.specs.State.{State, withClock, withSlots, withValve, withRecords}
+use Rattle.state.specs.declared.Stage.{Stage}
+use Rattle.state.specs.State.{State, stateOf, registersOf, withClock, withSlots, withValve, withRecords}
 use Rattle.state.specs.Bounds.{noClock}
 
 -- a later date: the open day becomes a record, and a later month likewise; usage is kept or begins at 0; with no plan in force an open
@@ -38,3 +41,9 @@ unfoldable pub turnWords : Registers → Stamp → List ℕ → List ℕ
 turnWords r s h =
     cond (ltb (r .clock .date) (s .date))
     (cond (eqb (r .clock .date) 0) h (closedWords (r .periods) (r .clock .date) (s .date) (r .account .balance) h)) h
+
+-- the promise of a turn: the registers and the codes that it hands back, and every word that it was lent
+abbrev pub Turned : Registers → List ℕ → Stamp → Stage → List ℕ → Type 0
+Turned r h s t words =
+    (t .registers ≡ registersOf (turn real (stateOf r h) s)) × (words ≡ turnWords r s h) ×
+    (t .codes ≡ noteAll noCodes (turnCodes real (stateOf r h) s))

@@ -30,22 +30,22 @@ call-spec =
     (tie.spec
     (search needs)
     (search needs)
-    (search needs)
-    (search needs)
-    (search needs)
-    (search needs)
-    (search needs)
-    (search needs)
-    (search needs)
-    (search needs)
-    (search needs)
-    (search needs)
-    (search needs)
-    (search needs)
     returns
+    (search needs)
+    (search needs)
     returns-2
+    (search needs)
+    (search needs)
     returns-3
+    (search needs)
+    (search needs)
     returns-4
+    (search needs)
+    (search needs)
     returns-5
+    (search needs)
+    (search needs)
     returns-6
+    (search needs)
+    (search needs)
     returns-7)
