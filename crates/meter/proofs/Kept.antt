@@ -1,6 +1,6 @@
 -- Each accepted call keeps the bounds: a meter grown from a fresh one by calls never breaks them. Shown of any world that keeps the laws.
 use mathlib.Core.Path.{_≡_, refl, sym, ap, _∙_}
-use mathlib.Core.Bool.{Bool, true, false, _&&_}
+use mathlib.Core.Bool.{Bool, true, _&&_}
 use Prim.Native.Nat.{ℕ, _+_, _≤_}
 use lib.Dec.{leb, eqb}
 use lib.IntN.{pos}
@@ -21,7 +21,7 @@ use Rattle.record.specs.Record.{readOf}
 use Rattle.slots.specs.World.{World}
 use Rattle.slots.specs.Laws.{Laws}
 use Rattle.slots.specs.Slots.{someForce}
-use Rattle.slots.specs.Load.{loadRefusal, loaded}
+use Rattle.slots.specs.Load.{loaded}
 use Rattle.slots.specs.Bounds.{isFreshSlots}
 use Rattle.slots.proofs.Kept.{slots-in, slots-out, Loads, loads, slots-loaded, none-loaded}
 use Rattle.state.specs.State.{State, fresh, withSlots}

@@ -1,9 +1,9 @@
 -- The bounds of a meter in parts, and that a fresh meter is within them.
 use mathlib.Core.Path.{_≡_}
-use mathlib.Core.Bool.{true, false, not}
-use Prim.Native.Nat.{ℕ, _+_, _≤_}
+use mathlib.Core.Bool.{true, false}
+use Prim.Native.Nat.{_≤_}
 use native.Mathlib.Omega.{arith}
-use lib.Dec.{leb, eqb}
+use lib.Dec.{eqb}
 use borrow.Author.Tests.{leb-true, le-leb, eqb-true, ne-eqb}
 use Rattle.units.specs.Volume.{highestTotal}
 use Rattle.units.specs.Money.{highestBalance}
@@ -14,7 +14,6 @@ use Rattle.account.specs.Valve.{isFreshValve}
 use Rattle.account.proofs.Kept.{fresh-account}
 use Rattle.records.specs.Bounds.{periodsGood, heldGood}
 use Rattle.records.proofs.Kept.{fresh-periods, fresh-held}
-use Rattle.slots.specs.declared.Slots.{Slots}
 use Rattle.slots.specs.World.{World}
 use Rattle.slots.specs.Laws.{Laws}
 use Rattle.slots.specs.Slots.{someForce}

@@ -12,7 +12,7 @@ use Rattle.account.proofs.Kept.{charged-good}
 use Rattle.records.proofs.Kept.{counted-good, held-grown}
 use Rattle.slots.specs.World.{World}
 use Rattle.slots.specs.Laws.{Laws}
-use Rattle.slots.specs.Slots.{someForce, used}
+use Rattle.slots.specs.Slots.{used}
 use Rattle.slots.proofs.Kept.{slots-in, slots-out, slots-used, force-used, fee-cap}
 use Rattle.state.specs.State.{State}
 use Rattle.state.specs.Pulsed.{grown, priced, costOf, pulsed}

@@ -14,4 +14,4 @@ returns-2 c = c .refused2 .ensures ∙ sym (ap (declinedOf (c .before .before .b
 pub declined-spec : {M : Type 1} → statement M
 declined-spec =
     tie.close
-    (tie.spec (search needs) (search needs) (search needs) (search needs) returns returns-2)
+    (tie.spec (search needs) (search needs) (search needs) returns (search needs) returns-2)

@@ -14,4 +14,4 @@ returns-2 c = c .refused2 .ensures ∙ sym (ap (deniedOf (c .before .before .bef
 pub denied-spec : {M : Type 1} → statement M
 denied-spec =
     tie.close
-    (tie.spec (search needs) (search needs) (search needs) (search needs) returns returns-2)
+    (tie.spec (search needs) (search needs) (search needs) returns (search needs) returns-2)
