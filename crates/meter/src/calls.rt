@@ -31,19 +31,24 @@ impl Machine {
         let Answer::Accepted = a else {
             return self.denied(a);
         };
-        if date <= self.registers.clock.date {
-            return effects::pulsed(self.registers, Codes::none(), was, p);
+        let mut s = self.registers;
+        let mut codes = Codes::none();
+        let mut f = was;
+        if self.registers.clock.date < date {
+            let t = self.registers.turn(words, date, p.stamp);
+            s = t.registers;
+            codes = t.codes;
+            f = s.slots.force(date);
         }
-        let is = self.registers.slots.force(date);
-        let t = self.registers.turn(words, was, is, p.stamp);
-        effects::pulsed(t.registers, t.codes, is, p)
+        effects::pulsed(s, codes, f, p)
     }
 
     // A recharge bought at a counter.
     pub fn recharge(self, words: &mut Words, p: Recharge) -> Outcome
         ensures { λ r. ⌜ Answers (meterOf self (now (words .entry))) (rechargeCall p) r (now (words .exit)) ⌝ }
     {
-        let d = self.registers.admitted(words, p.stamp);
+        let some = self.registers.slots.some_force(self.registers.clock.date);
+        let d = self.registers.admit(words, some, p.stamp);
         let Dated::On(date) = d else {
             return self.declined(d);
         };
@@ -51,14 +56,15 @@ impl Machine {
         let Answer::Accepted = a else {
             return self.denied(a);
         };
-        effects::recharged(self.registers.turned(words, date, p.stamp), p)
+        effects::recharged(self.registers.turn(words, date, p.stamp), p)
     }
 
     // A plan loaded into a slot; the record is a lent slice of any length.
     pub fn load(self, words: &mut Words, p: Load, bytes: &[u8]) -> Outcome
         ensures { λ r. ⌜ Answers (meterOf self (now (words .entry))) (loadCall p (now (bytes .entry))) r (now (words .exit)) ⌝ }
     {
-        let d = self.registers.admitted(words, p.stamp);
+        let some = self.registers.slots.some_force(self.registers.clock.date);
+        let d = self.registers.admit(words, some, p.stamp);
         let Dated::On(date) = d else {
             return self.declined(d);
         };
@@ -67,60 +73,64 @@ impl Machine {
         let Answer::Accepted = a else {
             return self.denied(a);
         };
-        effects::loaded(self.registers.turned(words, date, p.stamp), p.slot, r.plan)
+        effects::loaded(self.registers.turn(words, date, p.stamp), p.slot, r.plan)
     }
 
     // The two alarms set, in whole yuan.
     pub fn alarms(self, words: &mut Words, p: Alarms) -> Outcome
         ensures { λ r. ⌜ Answers (meterOf self (now (words .entry))) (alarmsCall p) r (now (words .exit)) ⌝ }
     {
-        let d = self.registers.admitted(words, p.stamp);
+        let some = self.registers.slots.some_force(self.registers.clock.date);
+        let d = self.registers.admit(words, some, p.stamp);
         let Dated::On(date) = d else {
             return self.declined(d);
         };
         if !account::alarms_good(p.one, p.two) {
             return self.refused(23);
         }
-        effects::alarmed(self.registers.turned(words, date, p.stamp), p)
+        effects::alarmed(self.registers.turn(words, date, p.stamp), p)
     }
 
     // A command of the master station: 0 forbids, 1 allows.
     pub fn command(self, words: &mut Words, p: Command) -> Outcome
         ensures { λ r. ⌜ Answers (meterOf self (now (words .entry))) (commandCall p) r (now (words .exit)) ⌝ }
     {
-        let d = self.registers.admitted(words, p.stamp);
+        let some = self.registers.slots.some_force(self.registers.clock.date);
+        let d = self.registers.admit(words, some, p.stamp);
         let Dated::On(date) = d else {
             return self.declined(d);
         };
         if p.code > 1 {
             return self.refused(21);
         }
-        effects::commanded(self.registers.turned(words, date, p.stamp), p)
+        effects::commanded(self.registers.turn(words, date, p.stamp), p)
     }
 
     // The household's key.
     pub fn key(self, words: &mut Words, p: Key) -> Outcome
         ensures { λ r. ⌜ Answers (meterOf self (now (words .entry))) (keyCall p) r (now (words .exit)) ⌝ }
     {
-        let d = self.registers.admitted(words, p.stamp);
+        let some = self.registers.slots.some_force(self.registers.clock.date);
+        let d = self.registers.admit(words, some, p.stamp);
         let Dated::On(date) = d else {
             return self.declined(d);
         };
         if !self.registers.key_allowed(date) {
             return self.refused(22);
         }
-        effects::opened(self.registers.turned(words, date, p.stamp))
+        effects::opened(self.registers.turn(words, date, p.stamp))
     }
 
     // The clock only.
     pub fn tick(self, words: &mut Words, p: Tick) -> Outcome
         ensures { λ r. ⌜ Answers (meterOf self (now (words .entry))) (tickCall p) r (now (words .exit)) ⌝ }
     {
-        let d = self.registers.admitted(words, p.stamp);
+        let some = self.registers.slots.some_force(self.registers.clock.date);
+        let d = self.registers.admit(words, some, p.stamp);
         let Dated::On(date) = d else {
             return self.declined(d);
         };
-        effects::none(self.registers.turned(words, date, p.stamp))
+        effects::none(self.registers.turn(words, date, p.stamp))
     }
 
     // Any of the calls; a load alone looks at the bytes.

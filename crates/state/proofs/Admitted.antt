@@ -65,8 +65,3 @@ read-off s {n} h = go (isStamp s) refl h
 -- what the turn to an admitted stamp asks for
 pub turn-may : {m : State} {s : Stamp} {d : ℕ} → Admitted m s d → (bounded real m ≡ true) × ((stampGood real s ≡ true) × (d ≡ s .date))
 turn-may a = (a .bounds, (a .stamp, a .date))
-
--- and with the slots in force
-pub slots-may : {m : State} {s : Stamp} {d : ℕ} {was is : Force} → Admitted m s d → was ≡ forceOn real (m .slots) (m .clock .date) → is ≡ forceOn real (m .slots) d →
-    (bounded real m ≡ true) × ((stampGood real s ≡ true) × ((was ≡ forceOn real (m .slots) (m .clock .date)) × (is ≡ forceOn real (m .slots) (s .date))))
-slots-may {m} a w i = (a .bounds, (a .stamp, (w, i ∙ ap (forceOn real (m .slots)) (a .date))))

@@ -1,5 +1,5 @@
 -- What the bounds of a meter leave for the leaves of a call, before and after the day is turned.
-use mathlib.Core.Path.{_≡_, refl}
+use mathlib.Core.Path.{_≡_, refl, ap, _∙_}
 use mathlib.Core.Bool.{true, false, _||_}
 use mathlib.Core.List.{List, []}
 use Prim.Native.Nat.{ℕ, _+_, _*_, _^_, _≤_, _<_}
@@ -144,10 +144,17 @@ alone-good m h =
     none-fresh : isFreshHeld noneHeld ≡ true
     none-fresh = refl
 
--- the slot in force on the stamp's date is that after the turn
-pub later-force : (m : State) (s : Stamp) → forceOn real (m .slots) (s .date) ≡ forceOn real (turn real m s .slots) (s .date)
+-- the slot in force on the stamp's date, after the turn and before it
+later-force : (m : State) (s : Stamp) → forceOn real (m .slots) (s .date) ≡ forceOn real (turn real m s .slots) (s .date)
 unfolding turn turnedTo slotsTurned slotOn
 later-force m s = cases (ltb (m .clock .date) (s .date)) (λ h. rw h) (λ h. rw h)
+
+pub same-force :
+    (m : State) (s : Stamp) → stampRefusal real m s ≡ Accepted → s .date ≤ m .clock .date →
+    forceOn real (m .slots) (m .clock .date) ≡ forceOn real (turn real m s .slots) (s .date)
+same-force m s h l =
+    let e : m .clock .date ≡ s .date = omega (arith, not-before-date (m .clock) s (stamp-passed real m s h .2)) in
+    ap (forceOn real (m .slots)) e ∙ later-force m s
 
 -- an account within its bounds
 pub small-balance : (m : State) → Parts real m → Small (m .account .balance .0)

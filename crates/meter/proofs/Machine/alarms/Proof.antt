@@ -19,16 +19,19 @@ abbrev asked : tie.Start → Call
 asked s = call (s .args .p)
 
 abbrev start : tie.After-known-told → tie.Start
-start k = k .before .before .before .before .before
+start k = k .before .before .before .before .before .before
 
 stamped : (k : tie.After-known-told) → Admitted (stateIn (lent (start k))) (start k .args .p .stamp) (k .before .d .given .0 .0)
-stamped k = admitted _ _ _ (sym (k .before .before .before .admitted .ensures) ∙ k .before .d .given .1)
+stamped k = admitted _ _ _ (sym (k .before .before .before .admit .ensures) ∙ k .before .d .given .1)
+
+admit-requires : tie.Need-admit-requires
+admit-requires c κs = c .before .some-force .ensures
 
 returns : tie.Need-returns
 returns c =
     let m = c .before .before .before in
-    let s = m .before .before in
-    not-admitted (lent s) (asked s) _ _ _ (m .admitted .ensures) (c .before .enum-told .given .1) (c .declined .ensures)
+    let s = m .before .before .before in
+    not-admitted (lent s) (asked s) _ _ _ (m .admit .ensures) (c .before .enum-told .given .1) (c .declined .ensures)
 
 returns-2 : tie.Need-returns-2
 unfolding ownRefusal
@@ -37,9 +40,9 @@ returns-2 c =
     let k = a .before in
     own-refused (lent (start k)) (asked (start k)) (stamped k .passed) 23 _ (rw (sym (a .alarms-good .ensures) ∙ not-true _ (c .before .if1 .taken))) (c .refused .ensures)
 
-turned-requires : tie.Need-turned-requires
+turn-requires : tie.Need-turn-requires
 unfolding stateWith
-turned-requires c κs = turn-may (stamped (c .before .before .before))
+turn-requires c κs = turn-may (stamped (c .before .before .before))
 
 returns-3 : tie.Need-returns-3
 unfolding ownRefusal
@@ -47,13 +50,14 @@ returns-3 c =
     let t = c .before in
     let i = t .before .before in
     let k = i .before .before in
-    accepts (lent (start k)) (asked (start k)) (stamped k .passed) _ _ _ (rw (sym (i .before .alarms-good .ensures) ∙ not-false _ (i .if1 .left))) (t .turned .ensures) (c .alarmed .ensures)
+    accepts (lent (start k)) (asked (start k)) (stamped k .passed) _ _ _ (rw (sym (i .before .alarms-good .ensures) ∙ not-false _ (i .if1 .left))) (t .turn .ensures) (c .alarmed .ensures)
 
 pub alarms-spec : {M : Type 1} → statement M
 alarms-spec =
     tie.close
     (tie.spec
     (search needs)
+    admit-requires
     (search needs)
     (search needs)
     (search needs)
@@ -61,6 +65,6 @@ alarms-spec =
     (search needs)
     (search needs)
     returns-2
-    turned-requires
+    turn-requires
     (search needs)
     returns-3)

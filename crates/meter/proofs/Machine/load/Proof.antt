@@ -24,16 +24,19 @@ abbrev asked : tie.Start → Call
 asked s = call (s .args .p) (s .args .bytes .now)
 
 abbrev start : tie.After-known-told → tie.Start
-start k = k .before .before .before .before .before .before
+start k = k .before .before .before .before .before .before .before
 
 stamped : (k : tie.After-known-told) → Admitted (stateIn (lent (start k))) (start k .args .p .stamp) (k .before .d .given .0 .0)
-stamped k = admitted _ _ _ (sym (k .before .before .before .admitted .ensures) ∙ k .before .d .given .1)
+stamped k = admitted _ _ _ (sym (k .before .before .before .admit .ensures) ∙ k .before .d .given .1)
+
+admit-requires : tie.Need-admit-requires
+admit-requires c κs = c .before .some-force .ensures
 
 returns : tie.Need-returns
 returns c =
     let m = c .before .before .before in
-    let s = m .before .before .before in
-    not-admitted (lent s) (asked s) _ _ _ (m .admitted .ensures) (c .before .enum-told .given .1) (c .declined .ensures)
+    let s = m .before .before .before .before in
+    not-admitted (lent s) (asked s) _ _ _ (m .admit .ensures) (c .before .enum-told .given .1) (c .declined .ensures)
 
 returns-2 : tie.Need-returns-2
 unfolding ownRefusal stateWith
@@ -45,9 +48,9 @@ returns-2 c =
     (v .vet .ensures ∙ rw (v .before .read .ensures) (ap (λ (d : ℕ). loadRefusal real (s .args .self .registers .slots) d (s .args .p .slot) (readOf (s .args .bytes .now))) (stamped k .date)))
     (c .before .enum-told3 .given .1) (c .denied .ensures)
 
-turned-requires : tie.Need-turned-requires
+turn-requires : tie.Need-turn-requires
 unfolding stateWith
-turned-requires c κs = turn-may (stamped (c .before .before .before .before .before))
+turn-requires c κs = turn-may (stamped (c .before .before .before .before .before))
 
 returns-3 : tie.Need-returns-3
 unfolding ownRefusal effectOf codesOf noteAll stateWith
@@ -57,13 +60,14 @@ returns-3 c =
     let v = a .before .before in
     let k = v .before .before in
     let own = rw (v .before .read .ensures, stamped k .date) at (sym (v .vet .ensures) ∙ a .enum-told2 .given .1) in
-    accepts (lent (start k)) (asked (start k)) (stamped k .passed) _ _ _ own (t .turned .ensures) (c .loaded .ensures ∙ rw (v .before .read .ensures))
+    accepts (lent (start k)) (asked (start k)) (stamped k .passed) _ _ _ own (t .turn .ensures) (c .loaded .ensures ∙ rw (v .before .read .ensures))
 
 pub load-spec : {M : Type 1} → statement M
 load-spec =
     tie.close
     (tie.spec
     (search needs)
+    admit-requires
     (search needs)
     (search needs)
     (search needs)
@@ -74,6 +78,6 @@ load-spec =
     (search needs)
     (search needs)
     returns-2
-    turned-requires
+    turn-requires
     (search needs)
     returns-3)

@@ -1,28 +1,28 @@
 -- The refusals in their order, then the turn where the day turns, then the pulses.
 use mathlib.Core.Path.{_≡_, refl, sym, ap, subst, _∙_}
-use mathlib.Core.Bool.{true}
 use borrow.Author.Needs.{needs}
-use Prim.Native.Nat.{_+_, _≤_}
+use mathlib.Core.List.{List}
+use mathlib.Core.Logic.{_⊎_, ⊎-elim}
+use Prim.Native.Nat.{ℕ, _+_, _≤_}
 use native.Mathlib.Omega.{arith}
 use Rattle.account.specs.declared.Codes.{Codes}
 use Rattle.account.specs.Codes.{noCodes, noteAll}
 use Rattle.answer.specs.declared.Answer.the-variants.{Accepted}
-use Rattle.calendar.proofs.Stamps.{not-before-date}
-use Rattle.slots.specs.World.{real}
+use Rattle.slots.specs.declared.Force.{Force}
 use Rattle.slots.specs.Slots.{forceOn}
-use Rattle.slots.proofs.InForce.{its-some}
 use Rattle.state.specs.declared.Registers.{Registers}
 use Rattle.state.specs.declared.Stage.{Stage}
-use Rattle.state.specs.State.{State, stateWith, alone, registersOf, withClock}
-use Rattle.state.specs.Bounds.{stateGood}
-use Rattle.state.specs.Turn.{turn, turnCodes}
-use Rattle.state.specs.Pulsed.{pulsed, pulseCodes}
+use Rattle.state.specs.Turn.{turn, turnCodes, turnWords}
 use Rattle.state.specs.Refusals.{pulseRefusal}
+use Rattle.state.specs.Pulsed.{pulsed, pulseCodes}
 use Rattle.state.proofs.Parts.{total-low}
-use Rattle.state.proofs.Rooms.{state, turned-good, pulses-fit, turned-clock, same-day, same-codes, same-words, alone-good, later-force}
-use Rattle.state.proofs.Admitted.{Admitted, admitted, slots-may}
+use Rattle.state.proofs.Rooms.{state, turned-good, pulses-fit, turned-clock, same-day, same-codes, same-words, alone-good, same-force}
+use Rattle.slots.specs.World.{real}
+use Rattle.slots.proofs.InForce.{its-some}
+use Rattle.state.specs.State.{State, stateWith, alone, registersOf, withClock}
+use Rattle.state.proofs.Admitted.{Admitted, admitted, turn-may}
 use Rattle.meter.specs.declared.Meter.{Meter}
-use Rattle.meter.specs.Call.{Call, pulses as call}
+use Rattle.meter.specs.Call.{pulses as call}
 use Rattle.meter.specs.Refusals.{ownRefusal}
 use Rattle.meter.specs.Effects.{effectOf, codesOf}
 use Rattle.meter.specs.Machine.{meterOf, stateIn, acceptedOf}
@@ -32,9 +32,6 @@ use Rattle.meter.proofs.Machine.pulses.Tie as tie
 
 abbrev lent : tie.Start → Meter
 lent s = meterOf (s .args .self) (s .args .words .now)
-
-abbrev asked : tie.Start → Call
-asked s = call (s .args .p)
 
 abbrev start : tie.After-known-told → tie.Start
 start k = k .before .before .before .before .before .before .before
@@ -49,7 +46,7 @@ returns : tie.Need-returns
 returns c =
     let m = c .before .before .before in
     let s = m .before .before .before .before in
-    not-admitted (lent s) (asked s) _ _ _ (m .admit .ensures) (c .before .enum-told .given .1) (c .declined .ensures)
+    not-admitted (lent s) (call (s .args .p)) _ _ _ (m .admit .ensures) (c .before .enum-told .given .1) (c .declined .ensures)
 
 vet-requires : tie.Need-vet-requires
 unfolding stateWith
@@ -58,99 +55,82 @@ vet-requires c κs = total-low real _ (state _ (stamped c .bounds))
 returns-2 : tie.Need-returns-2
 unfolding ownRefusal stateWith
 returns-2 c =
-    let v = c .before .before .before in
-    let k = v .before in
-    denied (lent (start k)) (asked (start k)) (stamped k .passed) _ _ _ (v .vet .ensures) (c .before .enum-told3 .given .1) (c .denied .ensures)
+    let k = c .before .before .before .before in
+    denied (lent (start k)) (call (start k .args .p)) (stamped k .passed) _ _ _ (c .before .before .before .vet .ensures) (c .before .enum-told3 .given .1) (c .denied .ensures)
 
 -- where the day may turn, the stamp is admitted and the count passed
-abbrev passed : tie.After-struct-known2 → tie.After-known-told
-passed c = c .before .before .before .before
+abbrev asked : tie.After-struct-known2 → tie.After-known-told
+asked c = c .before .before .before .before .before .before
 
-own : (c : tie.After-struct-known2) → pulseRefusal (start (passed c) .args .self .registers .volumes) (start (passed c) .args .p .count .0) ≡ Accepted
-own c = sym (c .before .before .before .vet .ensures) ∙ c .before .enum-told2 .given .1
-
--- what the pulses ask for, of registers that are those of the turn but for the clock
-fits : (c : tie.After-struct-known2) (r : Registers) →
-    withClock (alone r) (start (passed c) .args .p .stamp) ≡ alone (registersOf (turn real (stateIn (lent (start (passed c)))) (start (passed c) .args .p .stamp))) →
-    (stateGood real (withClock (alone r) (start (passed c) .args .p .stamp)) ≡ true) × (r .volumes .total .0 + start (passed c) .args .p .count .0 ≤ 99999999)
-unfolding registersOf stateWith
-fits c r e =
-    let k = passed c in
-    let m = stateIn (lent (start k)) in
-    let p = start k .args .p in (
-      rw e (alone-good _ (turned-good m (p .stamp) (stamped k .passed))),
-      subst (λ (x : State). x .volumes .total .0 + p .count .0 ≤ 99999999) (sym e) (pulses-fit m (p .stamp) (p .count .0) (own c)),
-    )
-
--- a stamp of the clock's date: the registers are those of the turn but for the clock
-same : (c : tie.Then1) →
-    withClock (alone (start (passed (c .before)) .args .self .registers)) (start (passed (c .before)) .args .p .stamp) ≡
-    alone (registersOf (turn real (stateIn (lent (start (passed (c .before))))) (start (passed (c .before)) .args .p .stamp)))
-same c =
-    let k = passed (c .before) in
-    same-day (start k .args .self .registers) (start k .args .words .now) (start k .args .p .stamp) (omega (arith, c .if1 .taken, stamped k .date))
-
-pulsed-requires : tie.Need-pulsed-requires
-unfolding stateWith
-pulsed-requires c κs =
-    let k = passed (c .before .before) in
-    let r = start k .args .self .registers in
-    let s = start k .args .p .stamp in
-    let f = fits (c .before .before) r (same (c .before)) in
-    let e : r .clock .date ≡ s .date = omega (arith, c .before .if1 .taken, stamped k .date, not-before-date (r .clock) s (stamped k .later)) in
-    (f .0, (k .before .before .before .before .before .before .force .ensures ∙ ap (forceOn real (r .slots)) e, f .1))
-
-returns-3 : tie.Need-returns-3
-unfolding ownRefusal effectOf codesOf noteAll stateWith
-returns-3 c =
-    let i = c .before .before in
-    let k = passed (i .before) in
-    let m = stateIn (lent (start k)) in
-    let p = start k .args .p in
-    let r = start k .args .self .registers in
-    let h = start k .args .words .now in
-    let l : p .stamp .date ≤ r .clock .date = omega (arith, i .if1 .taken, stamped k .date) in
-    let t : Stage = record { registers = registersOf (turn real m (p .stamp)); codes = noteAll noCodes (turnCodes real m (p .stamp)) } in
-    let x = alone (registersOf (turn real m (p .stamp))) in
-    accepts (lent (start k)) (asked (start k)) (stamped k .passed) t _ _ (own (i .before)) (refl, sym (same-words r h (p .stamp) l), refl)
-    (c .pulsed .ensures ∙
-    ap (λ (y : State). acceptedOf (registersOf (pulsed real y (p .count .0))) (noteAll (c .before .none .result) (pulseCodes real y (p .count .0)))) (same i) ∙
-    ap (λ (k : Codes). acceptedOf (registersOf (pulsed real x (p .count .0))) (noteAll k (pulseCodes real x (p .count .0))))
-    (c .before .none .ensures ∙ sym (ap (noteAll noCodes) (same-codes r h (p .stamp) l))))
+fits : (c : tie.After-struct-known2) → pulseRefusal (start (asked c) .args .self .registers .volumes) (start (asked c) .args .p .count .0) ≡ Accepted
+fits c = let a = c .before .before .before in sym (a .before .before .vet .ensures) ∙ a .enum-told2 .given .1
 
 turn-requires : tie.Need-turn-requires
 unfolding stateWith
-turn-requires c κs =
-    let k = passed (c .before .before .before) in
-    slots-may (stamped k) (k .before .before .before .before .before .before .force .ensures) (c .before .force2 .ensures)
+turn-requires c κs = turn-may (stamped (asked (c .before .before)))
 
-pulsed-requires-2 : tie.Need-pulsed-requires-2
-unfolding registersOf stateWith
-pulsed-requires-2 c κs =
-    let b = c .before .before in
-    let k = passed (b .before .before) in
+-- whether the day turned or not, registers, words and codes are those of the turn but for the clock, and the slot is that in force on the
+-- stamp's date
+record Met (k : tie.After-known-told) (r : Registers) (h : List ℕ) (n : Codes) (f : Force) : Type 0 where
+  registers : withClock (alone r) (start k .args .p .stamp) ≡ alone (registersOf (turn real (stateIn (lent (start k))) (start k .args .p .stamp)))
+  words : h ≡ turnWords (start k .args .self .registers) (start k .args .p .stamp) (start k .args .words .now)
+  codes : n ≡ noteAll noCodes (turnCodes real (stateIn (lent (start k))) (start k .args .p .stamp))
+  force : f ≡ forceOn real (turn real (stateIn (lent (start k))) (start k .args .p .stamp) .slots) (start k .args .p .stamp .date)
+
+met : (c : tie.Joined1) → Met (asked (c .before)) (c .if1 .s) (c .if1 .words) (c .if1 .codes) (c .if1 .f)
+unfolding noteAll registersOf stateWith
+met c =
+    let k = asked (c .before) in
     let m = stateIn (lent (start k)) in
     let s = start k .args .p .stamp in
-    let f = fits (b .before .before) (c .turn .result .registers) (ap (λ (x : Registers). withClock (alone x) s) (c .turn .ensures .0) ∙ turned-clock m s) in (
-      f .0,
+    let r = start k .args .self .registers in
+    let h = start k .args .words .now in
+    let date = stamped k .date in
+    ⊎-elim
+    (λ w. record {
+      registers = ap (λ (x : Registers). withClock (alone x) s) (w .7 ∙ w .2 .ensures .0) ∙ turned-clock m s;
+      words = w .6 ∙ w .2 .ensures .1;
+      codes = w .8 ∙ w .2 .ensures .2;
+      force =
+          w .9 ∙ w .5 .ensures ∙ ap (λ (x : Registers). forceOn real (x .slots) (k .before .d .given .0 .0)) (w .2 .ensures .0) ∙
+          ap (forceOn real (turn real m s .slots)) date;
+    })
+    (λ w. let l : s .date ≤ r .clock .date = omega (arith, w .0 .left, date) in record {
+      registers = ap (λ (x : Registers). withClock (alone x) s) (w .2) ∙ same-day r h s l;
+      words = w .1 ∙ sym (same-words r h s l);
+      codes = w .3 ∙ c .before .before .none .ensures ∙ sym (ap (noteAll noCodes) (same-codes r h s l));
+      force = w .4 ∙ k .before .before .before .before .before .before .force .ensures ∙ same-force m s (stamped k .passed) l;
+    })
+    (c .if1 .came)
+
+pulsed-requires : tie.Need-pulsed-requires
+unfolding registersOf stateWith
+pulsed-requires c κs =
+    let k = asked (c .before) in
+    let m = stateIn (lent (start k)) in
+    let p = start k .args .p in
+    let e = met c in
+    let f = pulses-fit m (p .stamp) (p .count .0) (fits (c .before)) in (
+      rw (e .registers) (alone-good _ (turned-good m (p .stamp) (stamped k .passed))),
       (
-        b .force2 .ensures ∙ ap (forceOn real (m .slots)) (stamped k .date) ∙ later-force m s ∙ sym (ap (λ (x : Registers). forceOn real (x .slots) (s .date)) (c .turn .ensures .0)),
-        f .1,
+        e .force ∙ sym (ap (λ (x : State). forceOn real (x .slots) (p .stamp .date)) (e .registers)),
+        subst (λ (x : State). x .volumes .total .0 + p .count .0 ≤ 99999999) (sym (e .registers)) f,
       ),
     )
 
-returns-4 : tie.Need-returns-4
+returns-3 : tie.Need-returns-3
 unfolding ownRefusal effectOf codesOf stateWith
-returns-4 c =
-    let t = c .before .turn .ensures in
-    let b = c .before .before .before .before .before in
-    let k = passed b in
+returns-3 c =
+    let j = c .before in
+    let k = asked (j .before) in
     let m = stateIn (lent (start k)) in
     let p = start k .args .p in
-    accepts (lent (start k)) (asked (start k)) (stamped k .passed) _ _ _ (own b) t
-    (c .pulsed2 .ensures ∙
-    ap (λ (y : State). acceptedOf (registersOf (pulsed real y (p .count .0))) (noteAll (c .before .turn .result .codes) (pulseCodes real y (p .count .0))))
-    (ap (λ (x : Registers). withClock (alone x) (p .stamp)) (t .0) ∙ turned-clock m (p .stamp) ∙ sym (ap (λ (x : Registers). alone x) (t .0))))
+    let t : Stage = record { registers = registersOf (turn real m (p .stamp)); codes = noteAll noCodes (turnCodes real m (p .stamp)) } in
+    let e = met j in
+    accepts (lent (start k)) (call p) (stamped k .passed) t _ _ (fits (j .before)) (refl, e .words, refl)
+    (c .pulsed .ensures ∙
+    ap (λ (x : State). acceptedOf (registersOf (pulsed real x (p .count .0))) (noteAll (j .if1 .codes) (pulseCodes real x (p .count .0)))) (e .registers) ∙
+    ap (λ (n : Codes). acceptedOf (registersOf (pulsed real (alone (t .registers)) (p .count .0))) (noteAll n (pulseCodes real (alone (t .registers)) (p .count .0)))) (e .codes))
 
 pub pulses-spec : {M : Type 1} → statement M
 pulses-spec =
@@ -168,9 +148,7 @@ pulses-spec =
     (search needs)
     returns-2
     (search needs)
-    pulsed-requires
-    returns-3
-    (search needs)
     turn-requires
-    pulsed-requires-2
-    returns-4)
+    (search needs)
+    pulsed-requires
+    returns-3)

@@ -22,16 +22,19 @@ abbrev asked : tie.Start → Call
 asked s = call (s .args .p)
 
 abbrev start : tie.After-known-told → tie.Start
-start k = k .before .before .before .before .before
+start k = k .before .before .before .before .before .before
 
 stamped : (k : tie.After-known-told) → Admitted (stateIn (lent (start k))) (start k .args .p .stamp) (k .before .d .given .0 .0)
-stamped k = admitted _ _ _ (sym (k .before .before .before .admitted .ensures) ∙ k .before .d .given .1)
+stamped k = admitted _ _ _ (sym (k .before .before .before .admit .ensures) ∙ k .before .d .given .1)
+
+admit-requires : tie.Need-admit-requires
+admit-requires c κs = c .before .some-force .ensures
 
 returns : tie.Need-returns
 returns c =
     let m = c .before .before .before in
-    let s = m .before .before in
-    not-admitted (lent s) (asked s) _ _ _ (m .admitted .ensures) (c .before .enum-told .given .1) (c .declined .ensures)
+    let s = m .before .before .before in
+    not-admitted (lent s) (asked s) _ _ _ (m .admit .ensures) (c .before .enum-told .given .1) (c .declined .ensures)
 
 vet-requires : tie.Need-vet-requires
 unfolding stateWith
@@ -46,9 +49,9 @@ returns-2 c =
     let k = v .before in
     denied (lent (start k)) (asked (start k)) (stamped k .passed) _ _ _ (v .vet .ensures) (c .before .enum-told3 .given .1) (c .denied .ensures)
 
-turned-requires : tie.Need-turned-requires
+turn-requires : tie.Need-turn-requires
 unfolding stateWith
-turned-requires c κs = turn-may (stamped (c .before .before .before .before))
+turn-requires c κs = turn-may (stamped (c .before .before .before .before))
 
 -- the call's own tests let it pass
 own : (a : tie.After-enum-told2) → ownRefusal real (stateIn (lent (start (a .before .before .before)))) (asked (start (a .before .before .before))) ≡ Accepted
@@ -63,20 +66,21 @@ recharged-requires c κs =
     let m = stateIn (lent (start k)) in
     let p = start k .args .p in
     let s = state m (stamped k .bounds) in
-    rw (c .turned .ensures .0, turn-account real m (p .stamp)) (small-balance m s, small-amount m (p .amount .0) (p .serial) s (own a))
+    rw (c .turn .ensures .0, turn-account real m (p .stamp)) (small-balance m s, small-amount m (p .amount .0) (p .serial) s (own a))
 
 returns-3 : tie.Need-returns-3
 returns-3 c =
     let t = c .before in
     let a = t .before .before in
     let k = a .before .before .before in
-    accepts (lent (start k)) (asked (start k)) (stamped k .passed) _ _ _ (own a) (t .turned .ensures) (c .recharged .ensures)
+    accepts (lent (start k)) (asked (start k)) (stamped k .passed) _ _ _ (own a) (t .turn .ensures) (c .recharged .ensures)
 
 pub recharge-spec : {M : Type 1} → statement M
 recharge-spec =
     tie.close
     (tie.spec
     (search needs)
+    admit-requires
     (search needs)
     (search needs)
     (search needs)
@@ -86,6 +90,6 @@ recharge-spec =
     (search needs)
     (search needs)
     returns-2
-    turned-requires
+    turn-requires
     recharged-requires
     returns-3)
