@@ -35,12 +35,13 @@ impl Machine {
         let mut codes = Codes::none();
         let mut f = was;
         if self.registers.clock.date < date {
+            f = self.registers.slots.force(date);
             let t = self.registers.turn(words, date, p.stamp);
             s = t.registers;
             codes = t.codes;
-            f = s.slots.force(date);
         }
-        effects::pulsed(s, codes, f, p)
+        let after = s.pulsed(f, p.stamp, p.count, codes);
+        Machine::accepted(after.registers, after.codes)
     }
 
     // A recharge bought at a counter.

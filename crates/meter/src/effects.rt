@@ -1,41 +1,23 @@
-// The effect of each call on registers whose day is turned, with its codes: the answer of an accepted call.
+// The effects of the calls but for pulses on registers whose day is turned, with their codes: the answers of accepted calls.
 use crate::Alarms;
 use crate::Command;
 use crate::Machine;
 use crate::Outcome;
-use crate::Pulses;
 use crate::Recharge;
 use account::Codes;
 use plan::Plan;
-use slots::Force;
-use state::Registers;
 use state::Stage;
 ghost use mathlib.Core.Path.{_≡_};
 ghost use mathlib.Core.Bool.{true};
 ghost use mathlib.Core.List.{[], _∷_};
-ghost use Prim.Native.Nat.{_+_, _≤_, _^_};
+ghost use Prim.Native.Nat.{_≤_, _^_};
 ghost use Rattle.units.specs.Money.{Small};
 ghost use Rattle.account.specs.Codes.{noteAll};
-ghost use Rattle.slots.specs.World.{real};
-ghost use Rattle.slots.specs.Slots.{forceOn};
 ghost use Rattle.slots.specs.Load.{loaded};
-ghost use Rattle.state.specs.State.{alone, registersOf, withClock, withSlots, withValve};
-ghost use Rattle.state.specs.Bounds.{stateGood};
-ghost use Rattle.state.specs.Pulsed.{pulsed, pulseCodes};
+ghost use Rattle.state.specs.State.{alone, registersOf, withSlots, withValve};
 ghost use Rattle.account.specs.Valve.{valveSet, keyCodes};
 ghost use Rattle.meter.specs.Call.{recharge, alarms, command};
 ghost use Rattle.meter.specs.Machine.{acceptedOf, effectBy};
-
-// `registers` are those of the turned day but for the clock; `f` is the slot in force on the stamp's date.
-pub(crate) fn pulsed(registers: Registers, codes: Codes, f: Force, p: Pulses) -> Outcome
-    requires { ⌜ stateGood real (withClock (alone registers) (p .stamp)) ≡ true ⌝ }
-    requires { ⌜ f ≡ forceOn real (registers .slots) (p .stamp .date) ⌝ }
-    requires { ⌜ registers .volumes .total .0 + p .count .0 ≤ 99999999 ⌝ }
-    ensures { λ r. ⌜ r ≡ acceptedOf (registersOf (pulsed real (withClock (alone registers) (p .stamp)) (p .count .0))) (noteAll codes (pulseCodes real (withClock (alone registers) (p .stamp)) (p .count .0))) ⌝ }
-{
-    let after = registers.pulsed(f, p.stamp, p.count, codes);
-    Machine::accepted(after.registers, after.codes)
-}
 
 pub(crate) fn recharged(t: Stage, p: Recharge) -> Outcome
     requires { ⌜ Small (t .registers .account .balance .0) ⌝ }

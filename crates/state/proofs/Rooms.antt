@@ -145,7 +145,7 @@ alone-good m h =
     none-fresh = refl
 
 -- the slot in force on the stamp's date, after the turn and before it
-later-force : (m : State) (s : Stamp) → forceOn real (m .slots) (s .date) ≡ forceOn real (turn real m s .slots) (s .date)
+pub later-force : (m : State) (s : Stamp) → forceOn real (m .slots) (s .date) ≡ forceOn real (turn real m s .slots) (s .date)
 unfolding turn turnedTo slotsTurned slotOn
 later-force m s = cases (ltb (m .clock .date) (s .date)) (λ h. rw h) (λ h. rw h)
 

@@ -16,7 +16,7 @@ use Rattle.state.specs.Turn.{turn, turnCodes, turnWords}
 use Rattle.state.specs.Refusals.{pulseRefusal}
 use Rattle.state.specs.Pulsed.{pulsed, pulseCodes}
 use Rattle.state.proofs.Parts.{total-low}
-use Rattle.state.proofs.Rooms.{state, turned-good, pulses-fit, turned-clock, same-day, same-codes, same-words, alone-good, same-force}
+use Rattle.state.proofs.Rooms.{state, turned-good, pulses-fit, turned-clock, same-day, same-codes, same-words, alone-good, later-force, same-force}
 use Rattle.slots.specs.World.{real}
 use Rattle.slots.proofs.InForce.{its-some}
 use Rattle.state.specs.State.{State, stateWith, alone, registersOf, withClock}
@@ -67,7 +67,7 @@ fits c = let a = c .before .before .before in sym (a .before .before .vet .ensur
 
 turn-requires : tie.Need-turn-requires
 unfolding stateWith
-turn-requires c κs = turn-may (stamped (asked (c .before .before)))
+turn-requires c κs = turn-may (stamped (asked (c .before .before .before)))
 
 -- whether the day turned or not, registers, words and codes are those of the turn but for the clock, and the slot is that in force on the
 -- stamp's date
@@ -78,7 +78,7 @@ record Met (k : tie.After-known-told) (r : Registers) (h : List ℕ) (n : Codes)
   force : f ≡ forceOn real (turn real (stateIn (lent (start k))) (start k .args .p .stamp) .slots) (start k .args .p .stamp .date)
 
 met : (c : tie.Joined1) → Met (asked (c .before)) (c .if1 .s) (c .if1 .words) (c .if1 .codes) (c .if1 .f)
-unfolding noteAll registersOf stateWith
+unfolding noteAll stateWith
 met c =
     let k = asked (c .before) in
     let m = stateIn (lent (start k)) in
@@ -88,12 +88,10 @@ met c =
     let date = stamped k .date in
     ⊎-elim
     (λ w. record {
-      registers = ap (λ (x : Registers). withClock (alone x) s) (w .7 ∙ w .2 .ensures .0) ∙ turned-clock m s;
-      words = w .6 ∙ w .2 .ensures .1;
-      codes = w .8 ∙ w .2 .ensures .2;
-      force =
-          w .9 ∙ w .5 .ensures ∙ ap (λ (x : Registers). forceOn real (x .slots) (k .before .d .given .0 .0)) (w .2 .ensures .0) ∙
-          ap (forceOn real (turn real m s .slots)) date;
+      registers = ap (λ (x : Registers). withClock (alone x) s) (w .7 ∙ w .3 .ensures .0) ∙ turned-clock m s;
+      words = w .6 ∙ w .3 .ensures .1;
+      codes = w .8 ∙ w .3 .ensures .2;
+      force = w .9 ∙ w .1 .ensures ∙ ap (forceOn real (r .slots)) date ∙ later-force m s;
     })
     (λ w. let l : s .date ≤ r .clock .date = omega (arith, w .0 .left, date) in record {
       registers = ap (λ (x : Registers). withClock (alone x) s) (w .2) ∙ same-day r h s l;
@@ -121,16 +119,16 @@ pulsed-requires c κs =
 returns-3 : tie.Need-returns-3
 unfolding ownRefusal effectOf codesOf stateWith
 returns-3 c =
-    let j = c .before in
+    let j = c .before .before in
     let k = asked (j .before) in
     let m = stateIn (lent (start k)) in
     let p = start k .args .p in
     let t : Stage = record { registers = registersOf (turn real m (p .stamp)); codes = noteAll noCodes (turnCodes real m (p .stamp)) } in
     let e = met j in
+    let a = c .before .pulsed .ensures in
     accepts (lent (start k)) (call p) (stamped k .passed) t _ _ (fits (j .before)) (refl, e .words, refl)
-    (c .pulsed .ensures ∙
-    ap (λ (x : State). acceptedOf (registersOf (pulsed real x (p .count .0))) (noteAll (j .if1 .codes) (pulseCodes real x (p .count .0)))) (e .registers) ∙
-    ap (λ (n : Codes). acceptedOf (registersOf (pulsed real (alone (t .registers)) (p .count .0))) (noteAll n (pulseCodes real (alone (t .registers)) (p .count .0)))) (e .codes))
+    (c .accepted .ensures ∙ rw (a .0, a .1, e .codes)
+    (ap (λ (x : State). acceptedOf (registersOf (pulsed real x (p .count .0))) (noteAll (t .codes) (pulseCodes real x (p .count .0)))) (e .registers)))
 
 pub pulses-spec : {M : Type 1} → statement M
 pulses-spec =
@@ -148,7 +146,8 @@ pulses-spec =
     (search needs)
     returns-2
     (search needs)
-    turn-requires
     (search needs)
+    turn-requires
     pulsed-requires
+    (search needs)
     returns-3)
