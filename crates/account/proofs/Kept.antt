@@ -1,14 +1,13 @@
 -- Laws of the account's bounds for the layers above: what they tell, and that charges, accepted recharges and alarms keep them.
 -- Assumes nothing.
 use mathlib.Core.Path.{_≡_}
-use mathlib.Core.Bool.{true, not, _&&_}
+use mathlib.Core.Bool.{true}
 use Prim.Native.Nat.{ℕ, _+_, _*_, _^_, _≤_, _<_}
 use native.Mathlib.Omega.{arith}
 use borrow.Author.Tests.{leb-true, ltb-true, le-leb, eqb-true, eqb-false, not-true}
-use lib.Dec.{leb, ltb, eqb}
+use lib.Dec.{ltb, eqb}
 use lib.IntN.{pos, _+ℤ_}
 use lib.Signed.{leZ}
-use Rattle.units.specs.Volume.{price}
 use Rattle.units.specs.Money.{Small, inBounds, inMillionths, takes, highestBalance}
 use Rattle.units.proofs.Integers.{plus, le-true, lt-false, small-dn}
 use Rattle.units.proofs.Balance.{are-bounds, in-small, debit-in, credit-in}

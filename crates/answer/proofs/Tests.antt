@@ -1,6 +1,6 @@
--- Case splits on a test, and what a chain of refusals tells that lets a call pass.
+-- Case splits on a test, tests of two parts, and what a chain of refusals tells that lets a call pass.
 use mathlib.Core.Path.{_≡_, refl, sym}
-use mathlib.Core.Bool.{Bool, true, false, not, _&&_, _||_, true≢false}
+use mathlib.Core.Bool.{Bool, true, false, cond, _&&_, _||_, true≢false}
 use Prim.Native.Nat.{ℕ}
 use Rattle.answer.specs.declared.Answer.{Answer}
 use Rattle.answer.specs.declared.Answer.the-variants.{Accepted, Refused}
@@ -9,6 +9,11 @@ use Rattle.answer.specs.Answer.{need, next}
 pub cases {ℓ} : {P : Type ℓ} (b : Bool) → (b ≡ true → P) → (b ≡ false → P) → P
 cases true f g = f refl
 cases false f g = g refl
+
+-- what holds of either holds of the one chosen
+pub either : {A : Type 0} (P : A → Type 0) (b : Bool) {x y : A} → (b ≡ true → P x) → (b ≡ false → P y) → P (cond b x y)
+either P true f g = f refl
+either P false f g = g refl
 
 pub never : {b : Bool} → b ≡ true → b ≡ false → ⊥
 never p q = let e : true ≡ false = cc in true≢false e
@@ -47,10 +52,6 @@ or-right false b e = e
 pub neither : (a b : Bool) → a ≡ false → b ≡ false → (a || b) ≡ false
 neither a b h i = rw (h, i)
 
-pub not-true : (b : Bool) → not b ≡ true → b ≡ false
-not-true true e = sym e
-not-true false e = refl
-
 -- a chain that accepts: its first test holds, and so does the rest
 pub need-first : (b : Bool) (n : ℕ) (a : Answer) → need b n a ≡ Accepted → b ≡ true
 need-first true n a h = refl
@@ -63,9 +64,6 @@ need-rest false n a h = cc
 pub need-both : {b : Bool} (n : ℕ) {a : Answer} → need b n a ≡ Accepted → (b ≡ true) × (a ≡ Accepted)
 need-both {b} n {a} h = (need-first b n a h, need-rest b n a h)
 
-pub need-all : (b : Bool) (n : ℕ) (a : Answer) → b ≡ true → a ≡ Accepted → need b n a ≡ Accepted
-need-all b n a h i = rw (h, i)
-
 pub next-first : (a b : Answer) → next a b ≡ Accepted → a ≡ Accepted
 next-first Accepted b h = refl
 next-first (Refused n) b h = h
@@ -76,6 +74,3 @@ next-rest (Refused n) b h = cc
 
 pub next-both : {a b : Answer} → next a b ≡ Accepted → (a ≡ Accepted) × (b ≡ Accepted)
 next-both {a} {b} h = (next-first a b h, next-rest a b h)
-
-pub next-all : (a b : Answer) → a ≡ Accepted → b ≡ Accepted → next a b ≡ Accepted
-next-all a b h i = rw (h, i)

@@ -1,6 +1,6 @@
 -- Cycles follow the order of the dates. How days are numbered is seen only through the laws of `Days`. Assumes nothing.
 use mathlib.Core.Path.{_≡_}
-use mathlib.Core.Bool.{true, cond}
+use mathlib.Core.Bool.{Bool, true, false, cond}
 use Prim.Native.Nat.{ℕ, zero, suc, _+_, _-_, _/_, _≤_, _<_}
 use native.Mathlib.Nat.{le-trans, le-div-iff-mul-le, div-mul-le-self, div-zero}
 use native.Mathlib.Numerals.{add-one}
@@ -10,8 +10,13 @@ use borrow.Author.Tests.{leb-true, ltb-true, ltb-false, le-leb, lt-ltb, le-ltb}
 use Rattle.calendar.specs.Date.{yearOf, monthOf, isDate}
 use Rattle.calendar.specs.DayNumber.{dayNumber}
 use Rattle.calendar.specs.Cycle.{monthStart, quarterMonth, quarterStart, yearStart, cycleStart, runOf}
-use Rattle.calendar.proofs.Bools.{cases, either, alike}
+use Rattle.answer.proofs.Tests.{cases, either}
 use Rattle.calendar.proofs.Days.{number-keeps}
+
+-- one test chooses between the smaller numbers as between the larger ones
+alike : (b : Bool) {x y u v : ℕ} → x ≤ u → y ≤ v → cond b x y ≤ cond b u v
+alike true p q = p
+alike false p q = q
 
 -- a later date's month does not start before
 pub month-rises : (a b : ℕ) → a ≤ b → monthStart a ≤ monthStart b
@@ -23,21 +28,21 @@ chosen : (k x : ℕ) (m n y z : ℕ) → m ≤ n → x ≤ z → y ≤ z → con
 chosen k x m n y z h p q =
     cases (leb n k)
     (λ e. rw (e, le-leb m k (omega (arith, leb-true n k e))) (omega arith))
-    (λ e. rw e (either (λ i. i ≤ z) (leb m k) p q))
+    (λ e. rw e (either (λ i. i ≤ z) (leb m k) (λ _. p) (λ _. q)))
 
 -- a later month's quarter does not start before
 quarter-month-rises : (m n : ℕ) → m ≤ n → quarterMonth m ≤ quarterMonth n
 quarter-month-rises m n h =
     chosen 3 1 m n _ _ h
-    (either (λ i. 1 ≤ i) (leb n 6) (omega arith) (either (λ i. 1 ≤ i) (leb n 9) (omega arith) (omega arith)))
-    (chosen 6 4 m n _ _ h (either (λ i. 4 ≤ i) (leb n 9) (omega arith) (omega arith))
+    (either (λ i. 1 ≤ i) (leb n 6) (λ _. omega arith) (λ _. either (λ i. 1 ≤ i) (leb n 9) (λ _. omega arith) (λ _. omega arith)))
+    (chosen 6 4 m n _ _ h (either (λ i. 4 ≤ i) (leb n 9) (λ _. omega arith) (λ _. omega arith))
     (chosen 9 7 m n 10 10 h (omega arith) (omega arith)))
 
 -- a quarter starts in October at the latest
 pub quarter-month-bound : (m : ℕ) → quarterMonth m ≤ 10
 quarter-month-bound m =
-    either (λ i. i ≤ 10) (leb m 3) (omega arith)
-    (either (λ i. i ≤ 10) (leb m 6) (omega arith) (either (λ i. i ≤ 10) (leb m 9) (omega arith) (omega arith)))
+    either (λ i. i ≤ 10) (leb m 3) (λ _. omega arith)
+    (λ _. either (λ i. i ≤ 10) (leb m 6) (λ _. omega arith) (λ _. either (λ i. i ≤ 10) (leb m 9) (λ _. omega arith) (λ _. omega arith)))
 
 -- a later date's quarter does not start before
 pub quarter-rises : (a b : ℕ) → a ≤ b → quarterStart a ≤ quarterStart b

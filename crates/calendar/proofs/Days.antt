@@ -7,7 +7,7 @@ use lib.Dec.{leb, ltb}
 use borrow.Author.Tests.{leb-true, leb-false, ltb-true, ltb-false}
 use Rattle.calendar.specs.Date.{yearOf, monthOf, dayOf, firstDate, lastDate, isLeap, daysIn, isDay, isDate}
 use Rattle.calendar.specs.DayNumber.{daysOfMonths, daysOfYears, dayNumber}
-use Rattle.calendar.proofs.Bools.{cases, both}
+use Rattle.answer.proofs.Tests.{cases, split}
 use Rattle.calendar.proofs.Lengths.{months-more}
 
 -- the parts of a real date
@@ -25,11 +25,11 @@ pub record Real (d : ℕ) : Type 0 where
 pub real : (d : ℕ) → isDate d ≡ true → Real d
 unfolding isDate isDay
 real d h =
-    let h₁ = both (leb firstDate d) _ h in
-    let h₂ = both (leb d lastDate) _ (h₁ .1) in
-    let h₃ = both (leb 1 (monthOf d)) _ (h₂ .1) in
-    let h₄ = both (leb (monthOf d) 12) _ (h₃ .1) in
-    let h₅ = both (leb 1 (dayOf d)) _ (h₄ .1) in
+    let h₁ = split {a = leb firstDate d} h in
+    let h₂ = split {a = leb d lastDate} (h₁ .1) in
+    let h₃ = split {a = leb 1 (monthOf d)} (h₂ .1) in
+    let h₄ = split {a = leb (monthOf d) 12} (h₃ .1) in
+    let h₅ = split {a = leb 1 (dayOf d)} (h₄ .1) in
     let from = leb-true firstDate d (h₁ .0) in
     let to = leb-true d lastDate (h₂ .0) in
     record {

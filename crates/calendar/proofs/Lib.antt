@@ -1,5 +1,3 @@
-pub mod Bools
-pub mod Chain
 pub mod Lengths
 pub mod Days
 pub mod Cycles

@@ -7,7 +7,7 @@ use lib.Dec.{leb, ltb, eqb}
 use borrow.Author.Tests.{ltb-true, eqb-true}
 use Rattle.calendar.specs.Stamp.{notBefore}
 use Rattle.calendar.specs.declared.Stamp.{Stamp}
-use Rattle.calendar.proofs.Bools.{cases, both}
+use Rattle.answer.proofs.Tests.{cases, split}
 
 pub not-before-date : (a b : Stamp) → notBefore a b ≡ true → a .date ≤ b .date
 unfolding notBefore
@@ -15,5 +15,5 @@ not-before-date a b h =
     cases (ltb (a .date) (b .date))
     (λ e. omega (arith, ltb-true (a .date) (b .date) e))
     (λ e.
-    let p = both (eqb (a .date) (b .date)) (leb (a .second) (b .second)) (rw e at h) in
+    let p = split {a = eqb (a .date) (b .date)} {b = leb (a .second) (b .second)} (rw e at h) in
     omega (arith, eqb-true (a .date) (b .date) (p .0)))

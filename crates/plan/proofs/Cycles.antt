@@ -4,7 +4,7 @@ use mathlib.Core.Bool.{true}
 use Prim.Native.Nat.{ℕ, _≤_}
 use lib.Dec.{eqb}
 use Rattle.calendar.specs.Date.{isDate}
-use Rattle.calendar.proofs.Bools.{cases}
+use Rattle.answer.proofs.Tests.{cases}
 use Rattle.calendar.proofs.Cycles.{start-rises, run-rises}
 use Rattle.plan.specs.declared.Plan.{Plan}
 use Rattle.plan.specs.Plan.{cycleWord}

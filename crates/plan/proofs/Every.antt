@@ -6,7 +6,7 @@ use native.Mathlib.Nat.{not-suc-le-zero}
 use native.Mathlib.Omega.{arith}
 use lib.Dec.{eqb}
 use borrow.Author.Tests.{eqb-true, eqb-false}
-use Rattle.calendar.proofs.Bools.{cases, both}
+use Rattle.answer.proofs.Tests.{cases, split}
 use Rattle.plan.specs.Rules.{every}
 
 -- what holds of every number holds of each
@@ -14,7 +14,7 @@ pub every-at : (f : ℕ → Bool) (n j : ℕ) → every f n ≡ true → j < n �
 unfolding every
 every-at f zero j h k = absurd (not-suc-le-zero k)
 every-at f (suc n) j h k =
-    let t = both (every f n) (f n) h in
+    let t = split {a = every f n} {b = f n} h in
     cases (eqb j n)
     (λ e. rw (eqb-true j n e) (t .1))
     (λ e. let ne : j ≡ n → ⊥ = eqb-false j n e in every-at f n j (t .0) (omega arith))

@@ -6,7 +6,7 @@ use native.Mathlib.Omega.{arith}
 use lib.Dec.{ltb, leb, eqb}
 use borrow.Author.Tests.{ltb-true, ltb-false, leb-true, eqb-true, lt-ltb, le-ltb, le-leb}
 use Rattle.calendar.specs.Date.{isDate}
-use Rattle.calendar.proofs.Bools.{cases, both}
+use Rattle.answer.proofs.Tests.{cases, split}
 use Rattle.plan.specs.declared.Plan.{Plan}
 use Rattle.plan.specs.Plan.{cycleWord}
 use Rattle.plan.specs.Rules.{someDay, isGood}
@@ -16,7 +16,7 @@ use Rattle.plan.proofs.Good.{start-date, window-dates, period-order, wi
 
 -- a date in a period is not before its first and before its last
 within : (from to d : ℕ) → inPeriod from to d ≡ true → (from ≤ d) × (d < to)
-within from to d h = let t = both (leb from d) (ltb d to) h in (leb-true from d (t .0), ltb-true d to (t .1))
+within from to d h = let t = split {a = leb from d} {b = ltb d to} h in (leb-true from d (t .0), ltb-true d to (t .1))
 
 inside : (from to d : ℕ) → from ≤ d → d < to → inPeriod from to d ≡ true
 inside from to d h k = rw (le-leb from d h, lt-ltb d to k)
@@ -26,7 +26,7 @@ module _ (p : Plan) (d : ℕ) where
   pub force-within : inForce p d ≡ true → (firstDay p ≤ d) × (d < endDay p)
   unfolding inForce firstDay endDay
   force-within h =
-      let t = both (inPeriod (p .start) (p .end) d) _ h in
+      let t = split {a = inPeriod (p .start) (p .end) d} h in
       let a = within (p .start) (p .end) d (t .0) in
       cases (eqb (cycleWord p) 4)
       (λ e. let b = within (p .first) (p .second) d (rw e at (t .1)) in rw e (omega arith))
@@ -104,7 +104,7 @@ first-in-force p h = within-force p (firstDay p) (omega arith) (first-before-end
 pub force-some-day : (p : Plan) (d : ℕ) → inForce p d ≡ true → (cycleWord p ≡ 5 → 1 ≤ p .second) → someDay p ≡ true
 unfolding someDay inForce
 force-some-day p d h n =
-    let t = both (inPeriod (p .start) (p .end) d) _ h in
+    let t = split {a = inPeriod (p .start) (p .end) d} h in
     let a = within (p .start) (p .end) d (t .0) in
     let s = lt-ltb (p .start) (p .end) (omega arith) in
     cases (eqb (cycleWord p) 4)

@@ -5,7 +5,7 @@ use Prim.Native.Nat.{ℕ, _≤_, _<_}
 use lib.Dec.{ltb, leb, eqb}
 use borrow.Author.Tests.{leb-true, ltb-true}
 use Rattle.calendar.specs.Date.{isDate}
-use Rattle.calendar.proofs.Bools.{both}
+use Rattle.answer.proofs.Tests.{split}
 use Rattle.plan.specs.declared.Plan.{Plan}
 use Rattle.answer.specs.declared.Answer.{Answer}
 use Rattle.answer.specs.declared.Answer.the-variants.{Accepted, Refused}
@@ -59,7 +59,7 @@ good-verdict p h = rw h
 -- a number of steps that passes is 6 at most
 pub steps-most : (p : Plan) → stepsGood p ≡ true → p .steps ≤ mostSteps
 unfolding stepsGood
-steps-most p h = leb-true (p .steps) mostSteps (both (leb 1 (p .steps)) _ h .1)
+steps-most p h = leb-true (p .steps) mostSteps (split {a = leb 1 (p .steps)} h .1)
 
 -- the part of the test of the dates that goes by the word
 abbrev extraDates : Plan → Bool
@@ -77,21 +77,21 @@ module _ (p : Plan) (h : isGood p ≡ true) where
   -- a good plan has one to six steps
   pub steps-range : (1 ≤ p .steps) × (p .steps ≤ mostSteps)
   unfolding stepsGood
-  steps-range = let t = both (leb 1 (p .steps)) _ (tests p h .steps) in (leb-true _ _ (t .0), leb-true _ _ (t .1))
+  steps-range = let t = split {a = leb 1 (p .steps)} (tests p h .steps) in (leb-true _ _ (t .0), leb-true _ _ (t .1))
 
   -- it starts on a date
   pub start-date : isDate (p .start) ≡ true
   unfolding datesGood
-  start-date = both (isDate (p .start)) _ (tests p h .dates) .0
+  start-date = split {a = isDate (p .start)} (tests p h .dates) .0
 
   -- what the word adds to the test of the dates
   extra-dates : extraDates p ≡ true
   unfolding datesGood
-  extra-dates = both (isDate (p .end)) _ (both (isDate (p .start)) _ (tests p h .dates) .1) .1
+  extra-dates = split {a = isDate (p .end)} (split {a = isDate (p .start)} (tests p h .dates) .1) .1
 
   -- both ends of a window are dates
   pub window-dates : cycleWord p ≡ 4 → (isDate (p .first) ≡ true) × (isDate (p .second) ≡ true)
-  window-dates w = both (isDate (p .first)) _ (rw w at extra-dates)
+  window-dates w = split {a = isDate (p .first)} (rw w at extra-dates)
 
   -- the first cycle day is a date
   pub first-date : cycleWord p ≡ 5 → isDate (p .first) ≡ true
@@ -100,18 +100,18 @@ module _ (p : Plan) (h : isGood p ≡ true) where
   -- it ends after it starts
   pub period-order : p .start < p .end
   unfolding someDay
-  period-order = ltb-true (p .start) (p .end) (both (ltb (p .start) (p .end)) _ (tests p h .days) .0)
+  period-order = ltb-true (p .start) (p .end) (split {a = ltb (p .start) (p .end)} (tests p h .days) .0)
 
   -- what the word adds to the test of the days
   extra-days : extraDays p ≡ true
   unfolding someDay
-  extra-days = both (ltb (p .start) (p .end)) _ (tests p h .days) .1
+  extra-days = split {a = ltb (p .start) (p .end)} (tests p h .days) .1
 
   -- a window begins before it ends, and some of it lies in the period
   pub window-order : cycleWord p ≡ 4 → (p .first < p .second) × (p .start < p .second) × (p .first < p .end)
   window-order w =
-      let f = both (ltb (p .first) (p .second)) _ (rw w at extra-days) in
-      let s = both (ltb (p .start) (p .second)) _ (f .1) in
+      let f = split {a = ltb (p .first) (p .second)} (rw w at extra-days) in
+      let s = split {a = ltb (p .start) (p .second)} (f .1) in
       (ltb-true _ _ (f .0), ltb-true _ _ (s .0), ltb-true _ _ (s .1))
 
   -- a cycle has a day
@@ -122,18 +122,18 @@ module _ (p : Plan) (h : isGood p ≡ true) where
   pairs-good : every (pairGood p) (p .steps) ≡ true
   unfolding numbersGood
   pairs-good =
-      let s = both (eightDigits (p .start)) _ (tests p h .numbers) in
-      let e = both (eightDigits (p .end)) _ (s .1) in
-      both (cond (hasExtra p) (eightDigits (p .first) && eightDigits (p .second)) true) _ (e .1) .1
+      let s = split {a = eightDigits (p .start)} (tests p h .numbers) in
+      let e = split {a = eightDigits (p .end)} (s .1) in
+      split {a = cond (hasExtra p) (eightDigits (p .first) && eightDigits (p .second)) true} (e .1) .1
 
   -- a width has eight digits at most
   pub width-bound : (i : ℕ) → i < p .steps → widthAt p i ≤ mostNumber
-  width-bound i k = leb-true _ _ (both (eightDigits (widthAt p i)) _ (every-at (pairGood p) (p .steps) i pairs-good k) .0)
+  width-bound i k = leb-true _ _ (split {a = eightDigits (widthAt p i)} (every-at (pairGood p) (p .steps) i pairs-good k) .0)
 
   -- and so has a price, which is not 0
   pub price-range : (i : ℕ) → i < p .steps → (1 ≤ priceAt p i) × (priceAt p i ≤ mostNumber)
   unfolding priced
   price-range i k = (
     leb-true 1 _ (every-at (hasPrice p) (p .steps) i (tests p h .prices) k),
-    leb-true _ _ (both (eightDigits (widthAt p i)) _ (every-at (pairGood p) (p .steps) i pairs-good k) .1),
+    leb-true _ _ (split {a = eightDigits (widthAt p i)} (every-at (pairGood p) (p .steps) i pairs-good k) .1),
   )

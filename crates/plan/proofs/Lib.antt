@@ -1,7 +1,6 @@
 pub mod Charge
 pub mod Cycles
 pub mod Every
-pub mod Flags
 pub mod Force
 pub mod Good
 pub mod Tidy

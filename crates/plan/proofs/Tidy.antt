@@ -6,7 +6,7 @@ use native.Mathlib.Omega.{arith}
 use lib.Dec.{ltb, eqb}
 use lib.ListN.{getD}
 use borrow.Author.Tests.{lt-ltb}
-use Rattle.calendar.proofs.Bools.{cases}
+use Rattle.answer.proofs.Tests.{cases}
 use Rattle.units.specs.Volume.{volume, price}
 use Rattle.plan.specs.declared.Plan.{Plan}
 use Rattle.plan.specs.Plan.{mostSteps, six, widthAt, priceAt, cycleWord, hasExtra, keptWidth, keptPrice, tidy}

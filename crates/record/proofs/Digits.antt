@@ -4,7 +4,7 @@ use mathlib.Core.Bool.{Bool, true, false, cond, _&&_}
 use mathlib.Core.List.{[], _∷_}
 use Prim.Native.Nat.{ℕ, _+_, _*_, _/_, _%_, _≤_, _<_}
 use native.Mathlib.Omega.{arith}
-use Rattle.calendar.proofs.Bools.{both}
+use Rattle.answer.proofs.Tests.{split}
 use Rattle.digits.specs.Digits.{pairOf}
 use Rattle.digits.proofs.Digits.{byte-pair, byte-digits, pair-byte}
 use Rattle.plan.specs.Rules.{mostNumber}
@@ -42,9 +42,9 @@ pub quad-there : (a b c d : ℕ) → quadOf a b c d ≤ mostNumber → fourBytes
 unfolding quadOf
 quad-there a b c d h =
     let g = good (twoDigits a && (twoDigits b && (twoDigits c && twoDigits d))) (numberOf a b c d) h in
-    let ta = both (twoDigits a) _ (g .0) in
-    let tb = both (twoDigits b) _ (ta .1) in
-    let tc = both (twoDigits c) _ (tb .1) in
+    let ta = split {a = twoDigits a} (g .0) in
+    let tb = split {a = twoDigits b} (ta .1) in
+    let tc = split {a = twoDigits c} (tb .1) in
     let pa = pair-byte a (ta .0) in
     let pb = pair-byte b (tb .0) in
     let pc = pair-byte c (tc .0) in

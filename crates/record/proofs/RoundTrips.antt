@@ -9,7 +9,7 @@ use lib.Dec.{ltb}
 use lib.ListN.{getD}
 use borrow.Author.Tests.{ltb-true, leb-true}
 use Rattle.answer.specs.declared.Answer.the-variants.{Accepted}
-use Rattle.calendar.proofs.Bools.{both}
+use Rattle.answer.proofs.Tests.{split}
 use Rattle.units.specs.Volume.{volume, price}
 use Rattle.plan.specs.declared.Plan.{Plan}
 use Rattle.plan.specs.Plan.{six, widthAt, priceAt, cycleWord, hasExtra, keptWidth, keptPrice, tidy}
@@ -38,12 +38,12 @@ module _ (p : Plan) (h : isGood p ≡ true) where
   numbers : (p .start ≤ mostNumber) × (p .end ≤ mostNumber) × (hasExtra p ≡ true → (p .first ≤ mostNumber) × (p .second ≤ mostNumber))
   unfolding numbersGood
   numbers =
-      let s = both (eightDigits (p .start)) _ (tests p h .numbers) in
-      let e = both (eightDigits (p .end)) _ (s .1) in
-      let x = both (cond (hasExtra p) (eightDigits (p .first) && eightDigits (p .second)) true) _ (e .1) in (
+      let s = split {a = eightDigits (p .start)} (tests p h .numbers) in
+      let e = split {a = eightDigits (p .end)} (s .1) in
+      let x = split {a = cond (hasExtra p) (eightDigits (p .first) && eightDigits (p .second)) true} (e .1) in (
         leb-true _ _ (s .0),
         leb-true _ _ (e .0),
-        λ t. let f = both (eightDigits (p .first)) _ (rw t at (x .0)) in (leb-true _ _ (f .0), leb-true _ _ (f .1)),
+        λ t. let f = split {a = eightDigits (p .first)} (rw t at (x .0)) in (leb-true _ _ (f .0), leb-true _ _ (f .1)),
       )
 
   width-back : (i : ℕ) → volume (quadAt (fourBytes (keptWidth p i .0)) 0) ≡ keptWidth p i

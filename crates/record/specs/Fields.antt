@@ -2,9 +2,12 @@
 -- field 4, then six pairs of volume 4 and price 4."
 use mathlib.Core.Bool.{Bool, true, cond, not}
 use mathlib.Core.List.{List, _∷_, _++_}
-use Prim.Native.Nat.{ℕ, _+_, _-_, _*_, _/_}
+use Prim.Native.Nat.{ℕ, zero, suc, _+_, _-_, _*_, _/_}
 use lib.Dec.{ltb}
 use lib.ListN.{getD}
+use lib.Seq.{sets}
+use Rattle.units.specs.declared.Hundredths.{Hundredths}
+use Rattle.units.specs.declared.TenThousandths.{TenThousandths}
 use Rattle.units.specs.Volume.{volume, price}
 use Rattle.plan.specs.declared.Plan.{Plan}
 use Rattle.plan.specs.Plan.{six, widthAt, priceAt, hasExtra}
@@ -15,6 +18,12 @@ abbrev pub recordLength : ℕ
 recordLength = 66
 
 -- the fields of a record as it stands, read or not
+abbrev pub widthsOf : List ℕ → List Hundredths
+widthsOf s = six (λ i. volume (quadAt s (18 + 8 * i)))
+
+abbrev pub pricesOf : List ℕ → List TenThousandths
+pricesOf s = six (λ i. price (quadAt s (22 + 8 * i)))
+
 unfoldable pub fieldsOf : List ℕ → Plan
 fieldsOf s = record {
   start = quadAt s 0;
@@ -23,9 +32,18 @@ fieldsOf s = record {
   word = getD s 9 0;
   first = quadAt s 10;
   second = quadAt s 14;
-  widths = six (λ i. volume (quadAt s (18 + 8 * i)));
-  prices = six (λ i. price (quadAt s (22 + 8 * i)));
+  widths = widthsOf s;
+  prices = pricesOf s;
 }
+
+-- a buffer with the bytes of two numbers, one behind the other, from byte i on
+unfoldable pub twoAt : List ℕ → ℕ → ℕ → ℕ → List ℕ
+twoAt l i x y = sets l i (fourBytes x ++ fourBytes y)
+
+-- a buffer l after the first n pairs were written into it
+abbrev pub pairsIn : Plan → List ℕ → ℕ → List ℕ
+pairsIn p l zero = l
+pairsIn p l (suc n) = twoAt (pairsIn p l n) (18 + 8 * n) (widthAt p n) (priceAt p n)
 
 -- pair i in bytes: volume 4, price 4
 abbrev pub pairBytes : Plan → ℕ → List ℕ

@@ -5,12 +5,11 @@ use plan::Plan;
 use units::Hundredths;
 use units::TenThousandths;
 ghost use mathlib.Core.Path.{_≡_};
-ghost use mathlib.Core.List.{_++_};
 ghost use Prim.Native.Nat.{_+_, _≤_};
 ghost use lib.ListN.{length};
 ghost use lib.Seq.{sets};
 ghost use Rattle.record.specs.Digits.{numberOf, quadOf, quadAt, fourBytes};
-ghost use Rattle.record.specs.Fields.{recordLength, fieldsOf, bytesOf};
+ghost use Rattle.record.specs.Fields.{recordLength, widthsOf, pricesOf, fieldsOf, twoAt, pairsIn, bytesOf};
 ghost use Rattle.record.specs.Record.{readingOf, readOf, writeAnswer, written};
 ghost use Rattle.record.specs.Choice.{which, choiceOf, partOf, handed};
 
@@ -56,6 +55,35 @@ fn quad_at(s: &[u8], at: usize) -> u32
     quad(s[at], s[at + 1], s[at + 2], s[at + 3])
 }
 
+// The six volumes, and the six prices.
+fn widths_of(s: &[u8]) -> [Hundredths; 6]
+    requires { ⌜ length (now s) ≡ recordLength ⌝ }
+    ensures { λ r. ⌜ r ≡ widthsOf (now (s .entry)) ⌝ }
+{
+    [
+        Hundredths(quad_at(s, 18)),
+        Hundredths(quad_at(s, 26)),
+        Hundredths(quad_at(s, 34)),
+        Hundredths(quad_at(s, 42)),
+        Hundredths(quad_at(s, 50)),
+        Hundredths(quad_at(s, 58)),
+    ]
+}
+
+fn prices_of(s: &[u8]) -> [TenThousandths; 6]
+    requires { ⌜ length (now s) ≡ recordLength ⌝ }
+    ensures { λ r. ⌜ r ≡ pricesOf (now (s .entry)) ⌝ }
+{
+    [
+        TenThousandths(quad_at(s, 22) as u64),
+        TenThousandths(quad_at(s, 30) as u64),
+        TenThousandths(quad_at(s, 38) as u64),
+        TenThousandths(quad_at(s, 46) as u64),
+        TenThousandths(quad_at(s, 54) as u64),
+        TenThousandths(quad_at(s, 62) as u64),
+    ]
+}
+
 // The fields of a record as it stands.
 fn fields_of(s: &[u8]) -> Plan
     requires { ⌜ length (now s) ≡ recordLength ⌝ }
@@ -68,22 +96,8 @@ fn fields_of(s: &[u8]) -> Plan
         word: s[9],
         first: quad_at(s, 10),
         second: quad_at(s, 14),
-        widths: [
-            Hundredths(quad_at(s, 18)),
-            Hundredths(quad_at(s, 26)),
-            Hundredths(quad_at(s, 34)),
-            Hundredths(quad_at(s, 42)),
-            Hundredths(quad_at(s, 50)),
-            Hundredths(quad_at(s, 58)),
-        ],
-        prices: [
-            TenThousandths(quad_at(s, 22) as u64),
-            TenThousandths(quad_at(s, 30) as u64),
-            TenThousandths(quad_at(s, 38) as u64),
-            TenThousandths(quad_at(s, 46) as u64),
-            TenThousandths(quad_at(s, 54) as u64),
-            TenThousandths(quad_at(s, 62) as u64),
-        ],
+        widths: widths_of(s),
+        prices: prices_of(s),
     }
 }
 
@@ -128,10 +142,24 @@ fn put_quad(x: u64, at: usize, out: &mut [u8])
 // Writes two numbers, one behind the other, into the eight bytes that begin at byte `at`.
 fn put_two(x: u64, y: u64, at: usize, out: &mut [u8])
     requires { ⌜ at + 8 ≤ length (now out) ⌝ }
-    ensures { λ _. ⌜ now (out .exit) ≡ sets (now (out .entry)) at (fourBytes x ++ fourBytes y) ⌝ }
+    ensures { λ _. ⌜ now (out .exit) ≡ twoAt (now (out .entry)) at x y ⌝ }
 {
     put_quad(x, at, out);
     put_quad(y, at + 4, out);
+}
+
+// Writes the six pairs of volume and price.
+fn put_pairs(p: Plan, out: &mut [u8])
+    requires { ⌜ length (now out) ≡ recordLength ⌝ }
+    ensures { λ _. ⌜ now (out .exit) ≡ pairsIn p (now (out .entry)) 6 ⌝ }
+{
+    let mut i = 0;
+    while i < Plan::MOST_STEPS {
+        let width = p.widths[i];
+        let price = p.prices[i];
+        put_two(width.0 as u64, price.0, 18 + 8 * i, out);
+        i += 1;
+    }
 }
 
 // Fills a buffer with the bytes of a plan, every field of it.
@@ -143,13 +171,7 @@ fn put(p: Plan, out: &mut [u8])
     out[8] = p.steps;
     out[9] = p.word;
     put_two(p.first as u64, p.second as u64, 10, out);
-    let mut i = 0;
-    while i < Plan::MOST_STEPS {
-        let width = p.widths[i];
-        let price = p.prices[i];
-        put_two(width.0 as u64, price.0, 18 + 8 * i, out);
-        i += 1;
-    }
+    put_pairs(p, out);
 }
 
 // Writes a plan into a lent buffer: its read fields and zero elsewhere; or 26, then 2 to 7, and the

@@ -11,7 +11,7 @@ use lib.ListN.{take, length, length-take}
 use Rattle.units.specs.declared.Millionths.{Millionths}
 use Rattle.units.specs.Money.{inBounds}
 use Rattle.units.proofs.Balance.{total-in}
-use Rattle.calendar.proofs.Bools.{both}
+use Rattle.answer.proofs.Tests.{split}
 use Rattle.records.specs.declared.Record.{Record}
 use Rattle.records.specs.declared.Tally.{Tally}
 use Rattle.records.specs.declared.Periods.{Periods}
@@ -26,7 +26,7 @@ module _ (top total n : ℕ) where
   unfolding recordsGood
   records-grown [] h = refl
   records-grown (r ∷ l) h =
-      let b = both (recordGood top total r) (recordsGood top total l) h in
+      let b = split {a = recordGood top total r} {b = recordsGood top total l} h in
       let p = record-is top total r (b .0) in
       let w : Within (total + n) (r .volume .0) (r .charge .0) = record { volumes = omega arith; charges = omega arith } in
       rw (is-record top (total + n) r w (total-in top (r .closing .0) total n (p .1))) (records-grown l (b .1))
@@ -70,7 +70,7 @@ module _ (top total : ℕ) where
   good-take zero l p = refl
   good-take (suc n) [] p = refl
   good-take (suc n) (r ∷ l) p =
-      let b = both (recordGood top total r) (recordsGood top total l) p in
+      let b = split {a = recordGood top total r} {b = recordsGood top total l} p in
       rw (b .0) (good-take n l (b .1))
 
   front-good : (limit : ℕ) (r : Record) (l : List Record) → recordGood top total r ≡ true → recordsGood top total l ≡ true → recordsGood top total (inFront limit r l) ≡ true
@@ -109,7 +109,7 @@ module _ (top total : ℕ) where
 module _ (top total : ℕ) where
   fresh-tally : (t : Tally) → isFreshTally t ≡ true → tallyGood total t ≡ true
   fresh-tally t h =
-      let b = both (eqb (t .volume .0) 0) (eqb (t .charge .0) 0) h in
+      let b = split {a = eqb (t .volume .0) 0} {b = eqb (t .charge .0) 0} h in
       let v : t .volume .0 ≡ 0 = eqb-true _ _ (b .0) in
       let c : t .charge .0 ≡ 0 = eqb-true _ _ (b .1) in
       is-tally total t (record { volumes = omega arith; charges = omega arith })
@@ -117,7 +117,7 @@ module _ (top total : ℕ) where
   pub fresh-periods : (p : Periods) → isFreshPeriods p ≡ true → periodsGood total p ≡ true
   unfolding isFreshPeriods
   fresh-periods p h =
-      let b = both (isFreshTally (p .day)) (isFreshTally (p .month)) h in
+      let b = split {a = isFreshTally (p .day)} {b = isFreshTally (p .month)} h in
       are-periods total p (fresh-tally (p .day) (b .0)) (fresh-tally (p .month) (b .1))
 
   none-good : (l : List Record) → length l ≡ 0 → recordsGood top total l ≡ true
@@ -128,7 +128,7 @@ module _ (top total : ℕ) where
   pub fresh-held : (h : Held) → isFreshHeld h ≡ true → heldGood top total h ≡ true
   unfolding isFreshHeld
   fresh-held h g =
-      let b = both (eqb (length (h .days)) 0) (eqb (length (h .months)) 0) g in
+      let b = split {a = eqb (length (h .days)) 0} {b = eqb (length (h .months)) 0} g in
       let d : length (h .days) ≡ 0 = eqb-true _ _ (b .0) in
       let m : length (h .months) ≡ 0 = eqb-true _ _ (b .1) in
       are-held top total h (record { dayFew = omega arith; monthFew = omega arith; days = none-good (h .days) d; months = none-good (h .months) m })

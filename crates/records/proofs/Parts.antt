@@ -8,7 +8,7 @@ use lib.Dec.{leb}
 use lib.ListN.{length}
 use Rattle.units.specs.Volume.{mostOf}
 use Rattle.units.specs.Money.{inBounds}
-use Rattle.calendar.proofs.Bools.{both}
+use Rattle.answer.proofs.Tests.{split}
 use Rattle.records.specs.declared.Record.{Record}
 use Rattle.records.specs.declared.Tally.{Tally}
 use Rattle.records.specs.declared.Periods.{Periods}
@@ -32,7 +32,7 @@ module _ (total : ℕ) where
   pub tally-is : (t : Tally) → tallyGood total t ≡ true → Within total (t .volume .0) (t .charge .0)
   unfolding tallyGood
   tally-is t h =
-      let b = both (leb (t .volume .0) total) (leb (t .charge .0) (mostOf total)) h in
+      let b = split {a = leb (t .volume .0) total} {b = leb (t .charge .0) (mostOf total)} h in
       record { volumes = leb-true _ _ (b .0); charges = leb-true _ _ (b .1) }
 
   pub is-tally : (t : Tally) → Within total (t .volume .0) (t .charge .0) → tallyGood total t ≡ true
@@ -41,7 +41,7 @@ module _ (total : ℕ) where
 
   pub periods-are : (p : Periods) → periodsGood total p ≡ true → (tallyGood total (p .day) ≡ true) × (tallyGood total (p .month) ≡ true)
   unfolding periodsGood
-  periods-are p h = both (tallyGood total (p .day)) (tallyGood total (p .month)) h
+  periods-are p h = split {a = tallyGood total (p .day)} {b = tallyGood total (p .month)} h
 
   pub are-periods : (p : Periods) → tallyGood total (p .day) ≡ true → tallyGood total (p .month) ≡ true → periodsGood total p ≡ true
   unfolding periodsGood
@@ -54,8 +54,8 @@ module _ (top total : ℕ) where
       → Within total (r .volume .0) (r .charge .0) × (inBounds top (r .closing .0) total ≡ true)
   unfolding recordGood
   record-is r h =
-      let a = both (leb (r .volume .0) total) (leb (r .charge .0) (mostOf total) && inBounds top (r .closing .0) total) h in
-      let b = both (leb (r .charge .0) (mostOf total)) (inBounds top (r .closing .0) total) (a .1) in
+      let a = split {a = leb (r .volume .0) total} {b = leb (r .charge .0) (mostOf total) && inBounds top (r .closing .0) total} h in
+      let b = split {a = leb (r .charge .0) (mostOf total)} {b = inBounds top (r .closing .0) total} (a .1) in
       (record { volumes = leb-true _ _ (a .0); charges = leb-true _ _ (b .0) }, b .1)
 
   pub is-record : (r : Record)
@@ -70,9 +70,9 @@ module _ (top total : ℕ) where
   held-are h g =
       let ds = recordsGood top total (h .days) in
       let ms = recordsGood top total (h .months) in
-      let a = both (leb (length (h .days)) 62) (leb (length (h .months)) 120 && (ds && ms)) g in
-      let b = both (leb (length (h .months)) 120) (ds && ms) (a .1) in
-      let c = both ds ms (b .1) in
+      let a = split {a = leb (length (h .days)) 62} {b = leb (length (h .months)) 120 && (ds && ms)} g in
+      let b = split {a = leb (length (h .months)) 120} {b = ds && ms} (a .1) in
+      let c = split {a = ds} {b = ms} (b .1) in
       record { dayFew = leb-true _ _ (a .0); monthFew = leb-true _ _ (b .0); days = c .0; months = c .1 }
 
   pub are-held : (h : Held) → AllGood top total h → heldGood top total h ≡ true

@@ -10,13 +10,15 @@ use units::Charge;
 use units::Hundredths;
 use units::Millionths;
 ghost use mathlib.Core.Path.{_≡_};
+ghost use mathlib.Core.List.{_∷_};
 ghost use Prim.Native.Nat.{_+_, _-_, _*_, _^_, _≤_, _<_, min};
 ghost use lib.ListN.{length, getD};
+ghost use lib.Seq.{sets};
 ghost use Rattle.units.specs.Money.{money};
 ghost use Rattle.records.specs.Bounds.{recordsGood, heldGood, isFreshHeld};
 ghost use Rattle.records.specs.Queries.{fetched, HeavyDay};
 ghost use Rattle.records.specs.Turn.{opened};
-ghost use Rattle.records.specs.Words.{balanceOf, balanceWord, recordFrom, recordAt, dateWord, rows, heldFrom, heldOf, noWords};
+ghost use Rattle.records.specs.Words.{balanceOf, balanceWord, recordFrom, recordAt, dateWord, recordWords, rows, heldFrom, heldOf, noWords};
 ghost use Rattle.records.specs.Moves.{pushed, closedWords};
 
 // The words of all held records.
@@ -143,6 +145,17 @@ fn least(a: usize, b: usize) -> usize
     if a < b { a } else { b }
 }
 
+// A count and the words of a record, put at `from`.
+fn put(h: &mut Words, from: usize, count: u64, r: Record)
+    requires { ⌜ from + 3 < 548 ⌝ }
+    ensures { λ _. ⌜ now (h .exit) ≡ sets (now (h .entry)) from (count ∷ recordWords r) ⌝ }
+{
+    h[from] = count;
+    h[from + 1] = date_word(r);
+    h[from + 2] = r.charge.0;
+    h[from + 3] = balance_word(r.closing);
+}
+
 // A record in front, behind the count at `from`; the oldest of `limit` gives way when full.
 fn push(h: &mut Words, from: usize, limit: usize, r: Record)
     requires { ⌜ (0 < limit) × (from + 3 * limit < 548) ⌝ }
@@ -155,10 +168,7 @@ fn push(h: &mut Words, from: usize, limit: usize, r: Record)
         h[i + 3] = h[i];
         i -= 1;
     }
-    h[from] = n as u64 + 1;
-    h[from + 1] = date_word(r);
-    h[from + 2] = r.charge.0;
-    h[from + 3] = balance_word(r.closing);
+    put(h, from, n as u64 + 1, r);
 }
 
 // Record k of those held behind the count at `from`, or refusal 25.

@@ -1,12 +1,12 @@
 -- Which plan is in force, by its slot's number.
 use mathlib.Core.Path.{_≡_, refl, sym, ap, _∙_, subst}
-use mathlib.Core.Bool.{Bool, true, false, not, _&&_, _||_}
+use mathlib.Core.Bool.{Bool, true, false, not, _||_}
 use mathlib.Core.Option.{Option, none, some}
 use Prim.Native.Nat.{ℕ}
 use native.Mathlib.Omega.{arith}
 use lib.Dec.{eqb}
-use borrow.Author.Tests.{ne-eqb}
-use Rattle.answer.proofs.Tests.{cases, never, and-left, and-right, not-true}
+use borrow.Author.Tests.{ne-eqb, not-true}
+use Rattle.answer.proofs.Tests.{cases, never, and-left, and-right}
 use Rattle.plan.specs.declared.Plan.{Plan}
 use Rattle.slots.specs.declared.Slot.{Slot}
 use Rattle.slots.specs.declared.Slots.{Slots}

@@ -1,21 +1,20 @@
 -- The bounds of the slots by their parts, both ways, and that the turn of the day, pulses and a load keep them. Shown of any world that
 -- keeps the laws.
 use mathlib.Core.Path.{_≡_, refl, sym, _∙_}
-use mathlib.Core.Bool.{Bool, true, false, cond, not, _&&_, _||_}
-use mathlib.Core.Option.{Option, none, some}
+use mathlib.Core.Bool.{Bool, true, false, cond, _||_}
 use Prim.Native.Nat.{ℕ, _+_, _-_, _*_, _≤_}
 use native.Mathlib.Omega.{arith}
-use lib.Dec.{leb, eqb}
-use borrow.Author.Tests.{leb-true, le-leb, eqb-true, eq-eqb}
+use lib.Dec.{eqb}
+use borrow.Author.Tests.{leb-true, le-leb, eqb-true, eq-eqb, not-true}
 use Rattle.answer.specs.declared.Answer.the-variants.{Accepted}
-use Rattle.answer.proofs.Tests.{cases, split, and-left, or-left, or-right, neither, not-true, need-both, next-both}
+use Rattle.answer.proofs.Tests.{cases, split, and-left, or-left, or-right, neither, need-both, next-both}
 use Rattle.plan.specs.declared.Plan.{Plan}
 use Rattle.record.specs.declared.Reading.{Reading}
 use Rattle.slots.specs.declared.Slot.{Slot}
 use Rattle.slots.specs.declared.Slots.{Slots}
 use Rattle.slots.specs.World.{World}
 use Rattle.slots.specs.Laws.{Laws}
-use Rattle.slots.specs.Slots.{slotAt, inSlot, planOn, slotOn, someForce, chargeBy, chargeOn, fee, used, keeps, usageOn, slotsTurned}
+use Rattle.slots.specs.Slots.{slotAt, inSlot, planOn, slotOn, someForce, chargeOn, fee, used, keeps, usageOn, slotsTurned}
 use Rattle.slots.specs.Load.{otherAt, holding, meetsSlot, loadRefusal, loaded}
 use Rattle.slots.specs.Bounds.{slotGood, apart, slotsGood, idleGood, isFreshSlots}
 use Rattle.slots.proofs.InForce.{force-is, no-plan, plan-one, plan-two, plan-none}

@@ -4,10 +4,10 @@ use mathlib.Core.Bool.{true, false}
 use Prim.Native.Nat.{_≤_}
 use native.Mathlib.Omega.{arith}
 use lib.Dec.{eqb}
-use borrow.Author.Tests.{leb-true, le-leb, eqb-true, ne-eqb}
+use borrow.Author.Tests.{leb-true, le-leb, eqb-true, ne-eqb, not-true}
 use Rattle.units.specs.Volume.{highestTotal}
 use Rattle.units.specs.Money.{highestBalance}
-use Rattle.answer.proofs.Tests.{cases, never, split, and-left, and-right, not-true}
+use Rattle.answer.proofs.Tests.{cases, never, split, and-left, and-right}
 use Rattle.account.specs.declared.Valve.{Valve}
 use Rattle.account.specs.Account.{accountGood}
 use Rattle.account.specs.Valve.{isFreshValve}

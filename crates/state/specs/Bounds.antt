@@ -4,6 +4,7 @@ use lib.Dec.{leb, eqb}
 use Rattle.units.specs.Volume.{highestTotal}
 use Rattle.units.specs.Money.{highestBalance}
 use Rattle.calendar.specs.declared.Stamp.{Stamp}
+use Rattle.calendar.specs.Stamp.{stampBy}
 use Rattle.account.specs.Account.{accountGood, isFreshAccount}
 use Rattle.account.specs.Valve.{isFreshValve}
 use Rattle.records.specs.Bounds.{periodsGood, heldGood, isFreshPeriods, isFreshHeld}
@@ -12,9 +13,9 @@ use Rattle.slots.specs.Bounds.{slotsGood, idleGood, isFreshSlots}
 use Rattle.state.specs.declared.Volumes.{Volumes}
 use Rattle.state.specs.State.{State}
 
--- a date in the calendar and a second of 0 to 86,399: refusal 8
+-- a date of the world and a second of the day: refusal 8
 unfoldable pub stampGood : World → Stamp → Bool
-stampGood w s = w .date (s .date) && leb (s .second) 86399
+stampGood w s = stampBy (w .date) s
 
 -- no accepted call yet
 abbrev pub noClock : State → Bool

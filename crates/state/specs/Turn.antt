@@ -3,8 +3,9 @@ use mathlib.Core.Path.{_≡_}
 use mathlib.Core.Bool.{cond}
 use mathlib.Core.List.{List, []}
 use Prim.Native.Nat.{ℕ}
-use lib.Dec.{ltb, eqb}
+use lib.Dec.{eqb}
 use Rattle.calendar.specs.declared.Stamp.{Stamp}
+use Rattle.calendar.specs.Stamp.{laterDate}
 use Rattle.account.specs.Codes.{noCodes, noteAll}
 use Rattle.account.specs.Valve.{valveKept, expiryCodes}
 use Rattle.records.specs.Turn.{opened, closed}
@@ -29,17 +30,17 @@ turnedTo w m s =
 
 -- "If its date is later than the clock's ..; then the clock takes the stamp."
 unfoldable pub turn : World → State → Stamp → State
-turn w m s = cond (ltb (m .clock .date) (s .date)) (turnedTo w m s) (withClock m s)
+turn w m s = cond (laterDate (m .clock) s) (turnedTo w m s) (withClock m s)
 
 unfoldable pub turnCodes : World → State → Stamp → List ℕ
 turnCodes w m s =
-    cond (ltb (m .clock .date) (s .date))
+    cond (laterDate (m .clock) s)
     (expiryCodes (someForce w (m .slots) (m .clock .date)) (someForce w (m .slots) (s .date)) (m .valve .opened)) []
 
 -- the words that hold the records, after the turn
 unfoldable pub turnWords : Registers → Stamp → List ℕ → List ℕ
 turnWords r s h =
-    cond (ltb (r .clock .date) (s .date))
+    cond (laterDate (r .clock) s)
     (cond (eqb (r .clock .date) 0) h (closedWords (r .periods) (r .clock .date) (s .date) (r .account .balance) h)) h
 
 -- the promise of a turn: the registers and the codes that it hands back, and every word that it was lent

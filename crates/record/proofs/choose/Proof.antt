@@ -1,5 +1,5 @@
 -- The date is tested, then the first record and the second; which of them is in force answers.
-use Rattle.plan.proofs.Flags.{passes, fails}
+use Rattle.answer.proofs.Chain.{passes, fails}
 use Rattle.record.specs.Choice.{choiceOf}
 use borrow.Author.Needs.{needs}
 use Rattle.record.proofs.choose.Statement.{statement}

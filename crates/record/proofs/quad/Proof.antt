@@ -2,7 +2,7 @@
 use mathlib.Core.Path.{_≡_}
 use mathlib.Core.Bool.{_&&_}
 use borrow.Author.Needs.{needs}
-use Rattle.calendar.proofs.Chain.{chain}
+use Rattle.answer.proofs.Chain.{chain}
 use Rattle.record.specs.Digits.{twoDigits, quadOf}
 use Rattle.record.proofs.quad.Statement.{statement}
 use Rattle.record.proofs.quad.Tie as tie

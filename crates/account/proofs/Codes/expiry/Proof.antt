@@ -1,6 +1,5 @@
 -- With a plan in force there is no code; else a plan that was in force gives its code, and an open valve the code of closing.
 use borrow.Author.Needs.{needs}
-use Rattle.account.specs.Codes.{noteAll}
 use Rattle.account.specs.Valve.{expiryCodes}
 use Rattle.account.proofs.Notes.{note-append}
 use Rattle.account.proofs.Codes.expiry.Statement.{statement}

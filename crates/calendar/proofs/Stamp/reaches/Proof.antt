@@ -1,6 +1,6 @@
 -- A later date reaches; the same date reaches by its second; an earlier one does not.
 use Rattle.calendar.specs.Stamp.{notBefore}
-use Rattle.calendar.proofs.Chain.{chain}
+use Rattle.answer.proofs.Chain.{chain}
 use Rattle.calendar.proofs.Stamp.reaches.Statement.{statement}
 use Rattle.calendar.proofs.Stamp.reaches.Tie as tie
 

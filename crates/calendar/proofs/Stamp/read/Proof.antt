@@ -1,7 +1,7 @@
 -- The date is read where `is_stamp` says so, and refused otherwise.
 use borrow.Author.Needs.{needs}
 use Rattle.calendar.specs.Stamp.{dated}
-use Rattle.calendar.proofs.Chain.{chain}
+use Rattle.answer.proofs.Chain.{chain}
 use Rattle.calendar.proofs.Stamp.read.Statement.{statement}
 use Rattle.calendar.proofs.Stamp.read.Tie as tie
 

@@ -1,6 +1,6 @@
 -- A window ends the days in force where it ends first.
 use borrow.Author.Needs.{needs}
-use Rattle.calendar.proofs.Chain.{chain}
+use Rattle.answer.proofs.Chain.{chain}
 use Rattle.plan.specs.Force.{endDay}
 use Rattle.plan.proofs.Plan.end_day.Statement.{statement}
 use Rattle.plan.proofs.Plan.end_day.Tie as tie

@@ -1,6 +1,6 @@
 -- The tests come in the order of their numbers, and the first that fails answers; there are six pairs at most.
 use borrow.Author.Needs.{needs}
-use Rattle.calendar.proofs.Chain.{then, otherwise, passes, fails}
+use Rattle.answer.proofs.Chain.{then, otherwise, passes, fails}
 use Rattle.plan.specs.Rules.{verdict}
 use Rattle.plan.proofs.Good.{steps-most}
 use Rattle.plan.proofs.Plan.vet.Statement.{statement}

@@ -1,8 +1,10 @@
 -- The words of the records that stay move up by three, the last first; the count and the new record's words are put before them.
-use mathlib.Core.Path.{_≡_, _∙_}
+use mathlib.Core.Path.{_≡_, refl, _∙_}
+use mathlib.Core.List.{_∷_}
 use Prim.Native.Nat.{_≤_, _-_, _+_, _*_}
 use native.Mathlib.Omega.{arith}
 use borrow.Author.Needs.{needs}
+use Rattle.records.specs.Words.{recordWords}
 use Rattle.records.specs.Moves.{pushed}
 use Rattle.records.proofs.Shift.{shifted, shift-none, shift-more, shift-all}
 use Rattle.records.proofs.held.push.Statement.{statement}
@@ -27,13 +29,14 @@ loop-again c =
 returns : tie.Need-returns Inv-loop μ-loop
 unfolding pushed
 returns c =
-    let v = c .before .before .before .loop in
-    let a = c .before .before .before .before .before .before .before .before .args in
-    let n = c .before .before .before .before .least in
+    let p = c .before .before in
+    let v = p .before .loop in
+    let n = p .before .before .least in
+    let a = p .before .before .before .before .before .before .args in
     let all : v .i ≡ a .from = omega arith in
     let three : a .from + 3 * n .result - a .from ≡ 3 * n .result = omega arith in
-    rw (rw all at (v .inv .1 .1), c .before .date-word .ensures, c .balance-word .ensures, ← n .ensures)
-    (shift-all (a .h .now) _ (a .from) _ _ _ _ (omega arith) (omega arith) ∙ rw three)
+    let moved = shift-all (a .h .now) (a .from + 3 * n .result) (a .from) ((n .result + 1) ∷ recordWords (a .r)) refl (omega arith) (omega arith) in
+    rw (c .put .ensures, rw all at (v .inv .1 .1), ← n .ensures) (moved ∙ rw three)
 
 pub push-spec : {M : Type 1} → statement M
 push-spec =
@@ -57,18 +60,6 @@ push-spec =
     (search needs)
     (search needs)
     loop-again
-    (search needs)
-    (search needs)
-    (search needs)
-    (search needs)
-    (search needs)
-    (search needs)
-    (search needs)
-    (search needs)
-    (search needs)
-    (search needs)
-    (search needs)
-    (search needs)
     (search needs)
     (search needs)
     returns)
