@@ -5,41 +5,45 @@ use Prim.Native.Nat.{ℕ}
 use lib.ListN.{length, take}
 use lib.Seq.{take-at}
 use Rattle.text.specs.Decimal.{startingWith}
-use Rattle.words.specs.Words.{content}
-use Rattle.script.specs.declared.Kind.{Kind}
-use Rattle.script.specs.declared.Kind.the-variants as kind
+use Rattle.words.specs.Words.{content, wordAt, same}
+use Rattle.text.proofs.Digits.{cases}
+use Rattle.script.specs.declared.Form.{Form}
 use Rattle.script.specs.declared.Verdict.{Verdict}
 use Rattle.script.specs.declared.Verdict.the-variants.{Sound, Fault}
 use Rattle.script.specs.declared.Order.{Order}
-use Rattle.script.specs.Kinds.{formOf}
-use Rattle.script.specs.Orders.{saidBy, recordBy, orderBy, bytesBy, kindIn, verdictIn, orderIn, recordIn, orderOf, recordOf}
+use Rattle.script.specs.Forms.{Entry, numbered, questions, valves, entries, formIn, formOf}
+use Rattle.script.specs.Orders.{saidBy, recordBy, orderBy, bytesBy, firstForm, verdictIn, orderIn, recordIn, orderOf, recordOf}
 use Rattle.clerk.specs.Clerk.{sizeOf}
 
-of-kind : (k : Kind) (s : List ℕ) → length (recordBy (formOf k) s) ≡ sizeOf (saidBy k s)
-unfolding saidBy recordBy formOf
-of-kind kind.Pulse s = refl
-of-kind kind.Recharge s = refl
-of-kind kind.Plan s = refl
-of-kind kind.Alarms s = refl
-of-kind kind.Command s = refl
-of-kind kind.Key s = refl
-of-kind kind.Tick s = refl
-of-kind kind.Step s = refl
-of-kind kind.Display s = refl
-of-kind kind.Day s = refl
-of-kind kind.Month s = refl
-of-kind kind.Heavy s = refl
-of-kind kind.Show s = refl
-of-kind kind.Unknown s = refl
+-- the record that a form has is as long as the order that it asks for says
+abbrev Fits : Form → Type 0
+Fits f = (s : List ℕ) → length (recordBy f s) ≡ sizeOf (saidBy (f .kind) s)
 
-of-verdict : (v : Verdict) (k : Kind) (s : List ℕ) → length (bytesBy v k s) ≡ sizeOf (orderBy v k s)
-of-verdict Sound k s = of-kind k s
-of-verdict (Fault n) k s = refl
+-- each entry of a table has such a form
+data All : List Entry → Type 0 where
+  none : All []
+  more : {e : Entry} {es : List Entry} → Fits (e .form) → All es → All (e ∷ es)
+
+in-table : (w : List ℕ) {es : List Entry} → All es → Fits (formIn es w)
+unfolding formIn saidBy recordBy
+in-table w none s = refl
+in-table w (more {e} h t) s =
+    cases (same w (e .word)) (λ q. rw q (h s)) (λ q. rw q (in-table w t s))
+
+fits : All entries
+unfolding entries valves questions numbered saidBy recordBy
+fits =
+    more (λ s. refl) (more (λ s. refl) (more (λ s. refl) (more (λ s. refl) (more (λ s. refl) (more (λ s. refl) (more (λ s. refl)
+    (more (λ s. refl) (more (λ s. refl) (more (λ s. refl) (more (λ s. refl) (more (λ s. refl) (more (λ s. refl) none))))))))))))
+
+of-verdict : (v : Verdict) (f : Form) (s : List ℕ) → Fits f → length (bytesBy v f s) ≡ sizeOf (orderBy v f s)
+of-verdict Sound f s h = h s
+of-verdict (Fault n) f s h = refl
 
 of-content : (s : List ℕ) → length (recordIn s) ≡ sizeOf (orderIn s)
-unfolding orderIn recordIn
+unfolding orderIn recordIn formOf
 of-content [] = refl
-of-content (x ∷ l) = of-verdict (verdictIn (x ∷ l)) (kindIn (x ∷ l)) (x ∷ l)
+of-content (x ∷ l) = of-verdict (verdictIn (x ∷ l)) (firstForm (x ∷ l)) (x ∷ l) (in-table (wordAt (x ∷ l) 0) fits)
 
 of-line : (line : List ℕ) → length (recordOf line) ≡ sizeOf (orderOf line)
 unfolding orderOf recordOf

@@ -6,7 +6,7 @@ use units::Millionths;
 use units::Shown;
 use units::TenThousandths;
 ghost use mathlib.Core.Bool.{cond};
-ghost use mathlib.Core.List.{_++_};
+ghost use mathlib.Core.List.{[], _∷_, _++_};
 ghost use Prim.Native.Nat.{_+_, _≤_};
 ghost use lib.ListN.{length};
 ghost use Rattle.text.specs.Written.{Written};
@@ -82,4 +82,13 @@ pub fn item(w: &[u8], v: Value, at: usize, out: &mut [u8]) -> usize
     let n = word(w, at, out);
     let k = put_value(v, &mut out[n..]);
     n + k
+}
+
+// A number and one byte behind it, a space or a newline.
+pub fn number(v: Value, after: u8, at: usize, out: &mut [u8]) -> usize
+    requires { ⌜ at + 28 ≤ length (now out) ⌝ }
+    ensures { λ r. ⌜ Placed at (valueText v ++ (after ∷ [])) 28 (now (out .entry)) r (now (out .exit)) ⌝ }
+{
+    let n = put_value(v, &mut out[at..]);
+    word(&[after], at + n, out)
 }

@@ -186,13 +186,27 @@ fn play_rest(s: Spot, rest: &[u8], room: &mut [u8], out: &mut [u8]) -> Spot
     t.spot
 }
 
+// The end of the input: its last line, and the closing line.
+fn finish(s: Spot, rest: &[u8], room: &mut [u8], out: &mut [u8])
+    requires { ⌜ length (now rest) ≤ 2 * length (now room) ⌝ }
+    requires { ⌜ (320 ≤ length (now out)) × (length (now out) ≤ 65536) ⌝ }
+{
+    let e = play_rest(s, rest, room, out);
+    let k = close(e.desk, out);
+    flush(k, out);
+}
+
 // A proved loop has to end, and nothing says that the input does. So it counts its turns down, from
 // a number that no run uses up.
-fn play_all(s: Spot, input: &mut [u8], room: &mut [u8], out: &mut [u8]) -> Spot
+fn play_all(input: &mut [u8], room: &mut [u8], out: &mut [u8])
     requires { ⌜ (length (now input) ≤ 2 * length (now room)) × (length (now input) ≤ 65536) ⌝ }
     requires { ⌜ (320 ≤ length (now out)) × (length (now out) ≤ 65536) ⌝ }
 {
-    let mut spot = s;
+    let mut spot = Spot {
+        desk: Desk::new(),
+        lines: 0,
+        skipping: false,
+    };
     let mut held = 0usize;
     let mut got = read_behind(input, 0);
     let mut turns = u64::MAX;
@@ -203,20 +217,12 @@ fn play_all(s: Spot, input: &mut [u8], room: &mut [u8], out: &mut [u8]) -> Spot
         got = read_behind(input, held);
         turns -= 1;
     }
-    play_rest(spot, &input[..held], room, out)
+    finish(spot, &input[..held], room, out);
 }
 
 fn main() {
     let mut input = [0u8; 65_536];
     let mut room = [0u8; 32_768];
     let mut out = [0u8; 65_536];
-    let s = Spot {
-        desk: Desk::new(),
-        lines: 0,
-        skipping: false,
-    };
-    let e = play_all(s, &mut input, &mut room, &mut out);
-    let desk = e.desk;
-    let k = close(desk, &mut out);
-    flush(k, &out);
+    play_all(&mut input, &mut room, &mut out);
 }

@@ -26,8 +26,8 @@ fn refused(k: u8, out: &mut [u8]) -> usize
     requires { ⌜ 320 ≤ length (now out) ⌝ }
     ensures { λ r. ⌜ Written (refusedLine k) 320 (now (out .entry)) r (now (out .exit)) ⌝ }
 {
-    let n = place::item(b"refused ", Value::Whole(k as u64), 0, out);
-    place::word(b"\n", n, out)
+    let n = place::word(b"refused ", 0, out);
+    place::number(Value::Whole(k as u64), b'\n', n, out)
 }
 
 // How many codes are printed, whatever the count says: the array holds eight.
@@ -73,9 +73,8 @@ pub fn step_line(s: Stepped, out: &mut [u8]) -> usize
     match s {
         Stepped::Refused(k) => refused(k, out),
         Stepped::At(p) => {
-            let n = place::item(b"", Value::Whole(p.number as u64), 0, out);
-            let e = place::item(b" ", Value::Whole(p.price.0), n, out);
-            place::word(b"\n", e, out)
+            let n = place::number(Value::Whole(p.number as u64), b' ', 0, out);
+            place::number(Value::Whole(p.price.0), b'\n', n, out)
         }
     }
 }
@@ -87,10 +86,7 @@ pub fn display_line(d: Displayed, out: &mut [u8]) -> usize
 {
     match d {
         Displayed::Refused(k) => refused(k, out),
-        Displayed::Shows(s) => {
-            let n = place::item(b"", Value::Display(s), 0, out);
-            place::word(b"\n", n, out)
-        }
+        Displayed::Shows(s) => place::number(Value::Display(s), b'\n', 0, out),
     }
 }
 
@@ -100,11 +96,10 @@ fn record_at(r: Record, at: usize, out: &mut [u8]) -> usize
     ensures { λ k. ⌜ Placed at (recordText r) 120 (now (out .entry)) k (now (out .exit)) ⌝ }
 {
     let b = r.closing;
-    let d = place::item(b"", Value::Whole(r.date as u64), at, out);
-    let v = place::item(b" ", Value::Whole(r.volume.0 as u64), d, out);
-    let c = place::item(b" ", Value::Whole(r.charge.0), v, out);
-    let e = place::item(b" ", Value::Balance(b), c, out);
-    place::word(b"\n", e, out)
+    let d = place::number(Value::Whole(r.date as u64), b' ', at, out);
+    let v = place::number(Value::Whole(r.volume.0 as u64), b' ', d, out);
+    let c = place::number(Value::Whole(r.charge.0), b' ', v, out);
+    place::number(Value::Balance(b), b'\n', c, out)
 }
 
 // The line of a day or month query.
@@ -126,9 +121,8 @@ pub fn heavy_line(h: Heavy, out: &mut [u8]) -> usize
     match h {
         Heavy::NoDay(k) => refused(k, out),
         Heavy::Day(k, r) => {
-            let n = place::item(b"", Value::Whole(k as u64), 0, out);
-            let e = place::word(b" ", n, out);
-            record_at(r, e, out)
+            let n = place::number(Value::Whole(k as u64), b' ', 0, out);
+            record_at(r, n, out)
         }
     }
 }

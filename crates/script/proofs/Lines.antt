@@ -8,8 +8,7 @@ use Rattle.words.specs.Words.{content}
 use Rattle.script.specs.declared.Verdict.{Verdict}
 use Rattle.script.specs.declared.Verdict.the-variants.{Sound, Fault}
 use Rattle.script.specs.declared.Order.the-variants.{Nothing, Wrong}
-use Rattle.script.specs.Kinds.{formOf}
-use Rattle.script.specs.Orders.{saidBy, recordBy, orderBy, bytesBy, kindIn, verdictIn, orderIn, recordIn, orderOf, recordOf}
+use Rattle.script.specs.Orders.{saidBy, recordBy, orderBy, bytesBy, firstForm, verdictIn, orderIn, recordIn, orderOf, recordOf}
 
 none : (s : List ℕ) → length s ≡ 0 → (Nothing ≡ orderIn s) × ([] ≡ recordIn s)
 unfolding orderIn recordIn
@@ -17,7 +16,7 @@ none [] h = (refl, refl)
 none (x ∷ s) h = absurd (omega arith)
 
 some : (s : List ℕ) → (length s ≡ 0 → ⊥)
-    → (orderBy (verdictIn s) (kindIn s) s ≡ orderIn s) × (bytesBy (verdictIn s) (kindIn s) s ≡ recordIn s)
+    → (orderBy (verdictIn s) (firstForm s) s ≡ orderIn s) × (bytesBy (verdictIn s) (firstForm s) s ≡ recordIn s)
 unfolding orderIn recordIn
 some [] h = absurd (h refl)
 some (x ∷ s) h = (refl, refl)
@@ -32,10 +31,10 @@ module _ (line s : List ℕ) (e : s ≡ content line) where
   wrong-line h n v = rw e at (rw v at (some s h))
 
   pub sound-line : (length s ≡ 0 → ⊥) → verdictIn s ≡ Sound
-      → (saidBy (kindIn s) s ≡ orderOf line) × (recordBy (formOf (kindIn s)) s ≡ recordOf line)
+      → (saidBy (firstForm s .kind) s ≡ orderOf line) × (recordBy (firstForm s) s ≡ recordOf line)
   unfolding orderOf recordOf
   sound-line h v =
       let p = some s h in (
-        ap (λ (u : Verdict). orderBy u (kindIn s) s) (sym v) ∙ p .0 ∙ ap orderIn e,
-        ap (λ (u : Verdict). bytesBy u (kindIn s) s) (sym v) ∙ p .1 ∙ ap recordIn e,
+        ap (λ (u : Verdict). orderBy u (firstForm s) s) (sym v) ∙ p .0 ∙ ap orderIn e,
+        ap (λ (u : Verdict). bytesBy u (firstForm s) s) (sym v) ∙ p .1 ∙ ap recordIn e,
       )

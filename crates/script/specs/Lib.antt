@@ -1,3 +1,3 @@
-pub mod Kinds
+pub mod Forms
 pub mod Faults
 pub mod Orders

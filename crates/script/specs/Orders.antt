@@ -18,7 +18,7 @@ use Rattle.script.specs.declared.Order.{Order}
 use Rattle.script.specs.declared.Order.the-variants.{Nothing, Call, Query, Show, Wrong}
 use Rattle.script.specs.declared.Query.the-variants.{Step, Display, Day, Month, Heavy}
 use Rattle.meter.specs.declared.Call.the-variants as call
-use Rattle.script.specs.Kinds.{kindOf, formOf}
+use Rattle.script.specs.Forms.{formOf}
 use Rattle.script.specs.Faults.{verdictOf}
 
 -- DATE SECOND: the first two numbers of a call
@@ -46,28 +46,28 @@ saidBy kind.Unknown s = Wrong 1
 unfoldable pub recordBy : Form → List ℕ → List ℕ
 recordBy f s = cond (leb (f .words) (f .numbers)) [] (bytesOf (wordAt s (f .words)))
 
-abbrev pub orderBy : Verdict → Kind → List ℕ → Order
-orderBy Sound k s = saidBy k s
-orderBy (Fault n) k s = Wrong n
+abbrev pub orderBy : Verdict → Form → List ℕ → Order
+orderBy Sound f s = saidBy (f .kind) s
+orderBy (Fault n) f s = Wrong n
 
-abbrev pub bytesBy : Verdict → Kind → List ℕ → List ℕ
-bytesBy Sound k s = recordBy (formOf k) s
-bytesBy (Fault n) k s = []
+abbrev pub bytesBy : Verdict → Form → List ℕ → List ℕ
+bytesBy Sound f s = recordBy f s
+bytesBy (Fault n) f s = []
 
 -- the same of a content: an empty one says nothing
-abbrev pub kindIn : List ℕ → Kind
-kindIn s = kindOf (wordAt s 0)
+abbrev pub firstForm : List ℕ → Form
+firstForm s = formOf (wordAt s 0)
 
 abbrev pub verdictIn : List ℕ → Verdict
-verdictIn s = verdictOf (formOf (kindIn s)) s
+verdictIn s = verdictOf (firstForm s) s
 
 unfoldable pub orderIn : List ℕ → Order
 orderIn [] = Nothing
-orderIn (x ∷ l) = orderBy (verdictIn (x ∷ l)) (kindIn (x ∷ l)) (x ∷ l)
+orderIn (x ∷ l) = orderBy (verdictIn (x ∷ l)) (firstForm (x ∷ l)) (x ∷ l)
 
 unfoldable pub recordIn : List ℕ → List ℕ
 recordIn [] = []
-recordIn (x ∷ l) = bytesBy (verdictIn (x ∷ l)) (kindIn (x ∷ l)) (x ∷ l)
+recordIn (x ∷ l) = bytesBy (verdictIn (x ∷ l)) (firstForm (x ∷ l)) (x ∷ l)
 
 -- what a line says
 unfoldable pub orderOf : List ℕ → Order

@@ -1,4 +1,6 @@
 // A journal of calls as plain text, one call to a line: what a line says, or what is wrong with it.
+mod forms; // forms.rt: the table of the words
+
 use calendar::Stamp;
 use meter::Alarms;
 use meter::Call;
@@ -14,8 +16,7 @@ ghost use mathlib.Core.Path.{_≡_};
 ghost use Prim.Native.Nat.{_*_, _≤_};
 ghost use lib.ListN.{length};
 ghost use Rattle.text.specs.Decimal.{startingWith};
-ghost use Rattle.script.specs.Kinds.{questionOf, kindOf, plain, formOf};
-ghost use Rattle.script.specs.Faults.{verdictOf};
+ghost use Rattle.script.specs.Faults.{need, verdictOf};
 ghost use Rattle.script.specs.Orders.{stampIn, saidBy, recordBy, orderOf, recordOf};
 
 // What a first word asks for.
@@ -36,9 +37,10 @@ pub enum Kind {
     Unknown,
 }
 
-// How a line is made: whether its first word is known, how many words follow it, and how many of
-// these are decimal numbers. The one behind them is the record of a plan.
+// How a line is made: what its first word asks for, whether it is known, how many words follow it,
+// and how many of these are decimal numbers. The one behind them is the record of a plan.
 pub struct Form {
+    pub kind: Kind,
     pub known: bool,
     pub words: usize,
     pub numbers: usize,
@@ -68,120 +70,26 @@ pub enum Order {
     Wrong(u8),
 }
 
-fn question_of(w: &[u8]) -> Kind
-    ensures { λ r. ⌜ r ≡ questionOf (now (w .entry)) ⌝ }
+// A test that must hold, and the fault where it does not.
+fn need(holds: bool, fault: u8, rest: Verdict) -> Verdict
+    ensures { λ r. ⌜ r ≡ need holds fault rest ⌝ }
 {
-    if words::same(w, b"step") {
-        return Kind::Step;
+    if holds {
+        return rest;
     }
-    if words::same(w, b"display") {
-        return Kind::Display;
-    }
-    if words::same(w, b"day") {
-        return Kind::Day;
-    }
-    if words::same(w, b"month") {
-        return Kind::Month;
-    }
-    if words::same(w, b"heavy") {
-        return Kind::Heavy;
-    }
-    if words::same(w, b"show") {
-        return Kind::Show;
-    }
-    Kind::Unknown
+    Verdict::Fault(fault)
 }
 
-fn kind_of(w: &[u8]) -> Kind
-    ensures { λ r. ⌜ r ≡ kindOf (now (w .entry)) ⌝ }
-{
-    if words::same(w, b"pulse") {
-        return Kind::Pulse;
-    }
-    if words::same(w, b"recharge") {
-        return Kind::Recharge;
-    }
-    if words::same(w, b"plan") {
-        return Kind::Plan;
-    }
-    if words::same(w, b"alarms") {
-        return Kind::Alarms;
-    }
-    if words::same(w, b"command") {
-        return Kind::Command;
-    }
-    if words::same(w, b"key") {
-        return Kind::Key;
-    }
-    if words::same(w, b"tick") {
-        return Kind::Tick;
-    }
-    question_of(w)
-}
-
-// So many numbers behind the first word, and nothing else.
-fn plain(numbers: usize) -> Form
-    ensures { λ r. ⌜ r ≡ plain numbers ⌝ }
-{
-    Form {
-        known: true,
-        words: numbers,
-        numbers,
-    }
-}
-
-fn form_of(kind: Kind) -> Form
-    ensures { λ r. ⌜ r ≡ formOf kind ⌝ }
-{
-    match kind {
-        Kind::Pulse => plain(3),
-        Kind::Recharge => plain(4),
-        Kind::Plan => Form {
-            known: true,
-            words: 4,
-            numbers: 3,
-        },
-        Kind::Alarms => plain(4),
-        Kind::Command => plain(3),
-        Kind::Key => plain(2),
-        Kind::Tick => plain(2),
-        Kind::Step => plain(0),
-        Kind::Display => plain(0),
-        Kind::Day => plain(1),
-        Kind::Month => plain(1),
-        Kind::Heavy => plain(1),
-        Kind::Show => plain(0),
-        Kind::Unknown => Form {
-            known: false,
-            words: 0,
-            numbers: 0,
-        },
-    }
-}
-
-// The first fault of a content.
+// The first fault of a content; the tests stand in reverse.
 fn verdict_of(f: Form, s: &[u8]) -> Verdict
     ensures { λ r. ⌜ r ≡ verdictOf f (now (s .entry)) ⌝ }
 {
-    if words::has_gap(s) {
-        return Verdict::Fault(5);
-    }
-    if !f.known {
-        return Verdict::Fault(1);
-    }
-    if words::words_behind(s) != f.words {
-        return Verdict::Fault(2);
-    }
-    if !words::are_numbers(s, f.numbers) {
-        return Verdict::Fault(3);
-    }
-    if f.words <= f.numbers {
-        return Verdict::Sound;
-    }
-    if !words::is_hex(words::word(s, f.words)) {
-        return Verdict::Fault(4);
-    }
-    Verdict::Sound
+    let hex = words::is_hex(words::word(s, f.words));
+    let v = need((f.words <= f.numbers) | hex, 4, Verdict::Sound);
+    let v = need(words::are_numbers(s, f.numbers), 3, v);
+    let v = need(words::words_behind(s) == f.words, 2, v);
+    let v = need(f.known, 1, v);
+    need(!words::has_gap(s), 5, v)
 }
 
 fn stamp_in(s: &[u8]) -> Stamp
@@ -299,12 +207,12 @@ pub fn parse(line: &[u8], room: &mut [u8]) -> Order
     if s.len() == 0 {
         return Order::Nothing;
     }
-    let kind = kind_of(words::word(s, 0));
-    let form = form_of(kind);
+    let form = forms::form_of(words::word(s, 0));
     let verdict = verdict_of(form, s);
     if let Verdict::Fault(n) = verdict {
         return Order::Wrong(n);
     }
     put_record(form, s, room);
+    let kind = form.kind;
     said(kind, s)
 }

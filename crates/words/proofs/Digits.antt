@@ -59,9 +59,6 @@ value-more w i h = rw (add-one, take-suc w i 0 h) (value-behind 0 (take i w) (ge
 pub cut-more : (m v d : ℕ) → min m (min m v * 10 + d) ≡ min m (v * 10 + d)
 cut-more m v d = omega arith
 
-pub cut-twice : (m n v : ℕ) → m ≤ n → min m (min n v) ≡ min m v
-cut-twice m n v h = omega arith
-
 -- hexadecimal digits
 pub hex-digit-at : (w : List ℕ) (i : ℕ) → i < length w → allHexDigits (drop i w) ≡ (isHexDigit (getD w i 0) && allHexDigits (drop (i + 1) w))
 unfolding allHexDigits

@@ -2,10 +2,7 @@
 use libc::STDOUT_FILENO;
 
 // The checks so far, and those that failed.
-pub struct Count {
-    pub checks: u32,
-    pub wrong: u32,
-}
+pub type Count = [u32; 2];
 
 fn next(n: u32) -> u32 {
     if n < 1000 { n + 1 } else { n }
@@ -18,24 +15,18 @@ fn line(before: &[u8], name: &[u8]) {
 }
 
 pub fn say(c: Count, ok: bool, name: &[u8]) -> Count {
-    let checks = next(c.checks);
+    let checks = next(c[0]);
     if ok {
         line(b"ok ", name);
-        return Count {
-            checks,
-            wrong: c.wrong,
-        };
+        return [checks, c[1]];
     }
     line(b"WRONG ", name);
-    Count {
-        checks,
-        wrong: next(c.wrong),
-    }
+    [checks, next(c[1])]
 }
 
 pub fn sum_up(c: Count) {
-    io::print_decimal(STDOUT_FILENO, c.checks as u64);
+    io::print_decimal(STDOUT_FILENO, c[0] as u64);
     io::write_all(STDOUT_FILENO, b" checks, ");
-    io::print_decimal(STDOUT_FILENO, c.wrong as u64);
+    io::print_decimal(STDOUT_FILENO, c[1] as u64);
     line(b" wrong", b"");
 }

@@ -1,15 +1,16 @@
 // Document 01, "Refusal by operation": each number, the meter unchanged where it is a call's.
-use crate::calls::PASS;
 use crate::calls::alarms;
 use crate::calls::command;
 use crate::calls::key;
 use crate::calls::load;
-use crate::calls::number;
 use crate::calls::pulses;
 use crate::calls::recharge;
 use crate::calls::tick;
 use crate::count::Count;
 use crate::count::say;
+use crate::run::PASS;
+use crate::run::number;
+use crate::same;
 use crate::setup;
 use crate::setup::BROKEN;
 use crate::setup::FEBRUARY;
@@ -20,7 +21,6 @@ use crate::setup::PLANNED;
 use crate::setup::READY;
 use crate::setup::TWICE;
 use meter::Meter;
-use record::Choice;
 use records::Fetched;
 use records::Heavy;
 use slots::Stepped;
@@ -52,19 +52,9 @@ fn broken_settings(c: Count) -> Count {
     say(c, ok, b"0: a tick")
 }
 
-// Plan A with two bytes that stand side by side altered.
-fn altered(at: usize, one: u8, two: u8) -> [u8; 66] {
-    let mut b = setup::plan_a();
-    if at < 65 {
-        b[at] = one;
-        b[at + 1] = two;
-    }
-    b
-}
-
 // Plan A, altered so, into slot 2.
 fn load_altered(at: usize, one: u8, two: u8, n: u32) -> bool {
-    let b = altered(at, one, two);
+    let b = setup::altered(at, one, two);
     load(READY, 20_200_115, 2, &b, n)
 }
 
@@ -202,18 +192,6 @@ fn queries(c: Count) -> Count {
     say(c, heavy() == 27, b"27: a heavy day where no day is held")
 }
 
-// Whether each byte of the short buffer is x.
-fn filled(s: &[u8; 65], x: u8) -> bool {
-    let mut i = 0;
-    while i < 65 {
-        if s[i] != x {
-            return false;
-        }
-        i += 1;
-    }
-    true
-}
-
 // Plan A written into a short buffer.
 fn write_a(out: &mut [u8; 65]) -> u32 {
     let a = setup::plan_a();
@@ -222,32 +200,15 @@ fn write_a(out: &mut [u8; 65]) -> u32 {
     number(w)
 }
 
+fn untouched(out: &[u8; 65]) -> bool {
+    same::bytes(out, &[0x77; 65])
+}
+
 fn short_buffer(c: Count) -> Count {
     let mut out = [0x77; 65];
     let n = write_a(&mut out);
     let c = say(c, n == 26, b"26: a buffer of 65 bytes");
-    say(c, filled(&out, 0x77), b"26: the buffer is unchanged")
-}
-
-// The number of the refusal to choose between two records on a date.
-fn choice<'a>(first: &'a [u8; 66], second: &'a [u8; 66], date: u32) -> u32 {
-    let h = record::choose(first, second, date);
-    match h {
-        Choice::First => PASS,
-        Choice::Second => PASS,
-        Choice::Refused(n) => n as u32,
-    }
-}
-
-fn records(c: Count) -> Count {
-    let a = setup::plan_a();
-    let t = setup::table_c10();
-    let n = choice(&a, &t, 20_210_101);
-    let c = say(c, n == 24, b"24: neither record in force");
-    let n = choice(&a, &a, 20_200_101);
-    let c = say(c, n == 12, b"12: both records in force");
-    let n = choice(&a, &t, 20_210_229);
-    say(c, n == 8, b"8: the date of a record in force")
+    say(c, untouched(&out), b"26: the buffer is unchanged")
 }
 
 pub fn all(c: Count) -> Count {
@@ -262,6 +223,5 @@ pub fn all(c: Count) -> Count {
     let c = amounts(c);
     let c = settings(c);
     let c = queries(c);
-    let c = short_buffer(c);
-    records(c)
+    short_buffer(c)
 }

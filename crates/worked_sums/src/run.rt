@@ -1,69 +1,32 @@
-// Each call on a meter by value: its held records are lent to the machine.
-use meter::Alarms;
-use meter::Command;
-use meter::Done;
-use meter::Key;
-use meter::Load;
+// A call on a meter by value: its held records are lent to the machine.
+use answer::Answer;
+use meter::Call;
 use meter::Meter;
-use meter::Outcome;
-use meter::Pulses;
-use meter::Recharge;
-use meter::Tick;
-use records::held::Words;
 
-// The meter that a call left, and what it answered.
+// What stands for the number of a refusal where a call is accepted.
+pub const PASS: u32 = 1000;
+
+// The meter that a call left, and the number that it answered.
 pub struct Ran {
     pub meter: Meter,
-    pub done: Done,
+    pub number: u32,
 }
 
-fn after(o: Outcome, held: Words) -> Ran {
-    let machine = o.machine;
-    let done = o.done;
-    Ran {
-        meter: Meter { machine, held },
-        done,
+pub fn number(a: Answer) -> u32 {
+    match a {
+        Answer::Accepted => PASS,
+        Answer::Refused(n) => n as u32,
     }
 }
 
-pub fn pulses(m: Meter, p: Pulses) -> Ran {
+pub fn call(m: Meter, c: Call, record: &[u8]) -> Ran {
     let mut held = m.held;
-    let o = m.machine.pulses(&mut held, p);
-    after(o, held)
-}
-
-pub fn recharge(m: Meter, p: Recharge) -> Ran {
-    let mut held = m.held;
-    let o = m.machine.recharge(&mut held, p);
-    after(o, held)
-}
-
-pub fn load(m: Meter, p: Load, bytes: &[u8]) -> Ran {
-    let mut held = m.held;
-    let o = m.machine.load(&mut held, p, bytes);
-    after(o, held)
-}
-
-pub fn alarms(m: Meter, p: Alarms) -> Ran {
-    let mut held = m.held;
-    let o = m.machine.alarms(&mut held, p);
-    after(o, held)
-}
-
-pub fn command(m: Meter, p: Command) -> Ran {
-    let mut held = m.held;
-    let o = m.machine.command(&mut held, p);
-    after(o, held)
-}
-
-pub fn key(m: Meter, p: Key) -> Ran {
-    let mut held = m.held;
-    let o = m.machine.key(&mut held, p);
-    after(o, held)
-}
-
-pub fn tick(m: Meter, p: Tick) -> Ran {
-    let mut held = m.held;
-    let o = m.machine.tick(&mut held, p);
-    after(o, held)
+    let o = m.machine.call(&mut held, c, record);
+    let machine = o.machine;
+    let done = o.done;
+    let a = done.answer;
+    Ran {
+        meter: Meter { machine, held },
+        number: number(a),
+    }
 }

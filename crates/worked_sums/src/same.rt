@@ -1,4 +1,4 @@
-// Whether two meters agree in all that is part of their state.
+// Whether two meters agree in all that is part of their state, and whether two slices agree.
 use account::Account;
 use account::Valve;
 use calendar::Stamp;
@@ -94,4 +94,18 @@ pub fn meters(x: Meter, y: Meter) -> bool {
     let v = x.held;
     let w = y.held;
     registers(x.machine.registers, y.machine.registers) & words(v, w)
+}
+
+pub fn bytes(x: &[u8], y: &[u8]) -> bool {
+    if x.len() != y.len() {
+        return false;
+    }
+    let mut i = 0;
+    while i < x.len() {
+        if x[i] != y[i] {
+            return false;
+        }
+        i += 1;
+    }
+    true
 }

@@ -1,19 +1,13 @@
 // The records, and the meters that the checks begin with.
+use crate::make;
 use crate::run;
 use account::Account;
-use calendar::Stamp;
-use meter::Command;
-use meter::Key;
-use meter::Load;
+use meter::Call;
 use meter::Machine;
 use meter::Meter;
-use meter::Pulses;
-use meter::Recharge;
-use meter::Tick;
 use state::Volumes;
 use units::Hundredths;
 use units::Millionths;
-use units::TenThousandths;
 
 // The meters by number: a number costs the proof of a caller less than an enum does. Calls whose
 // stamp is not named are made on 20200115, second 0.
@@ -62,53 +56,40 @@ pub fn table_c11() -> [u8; 66] {
     *b"\x20\x15\x01\x01\x20\x18\x01\x01\x03\x03\x20\x16\x01\x01\x20\x18\x01\x01\x00\x01\x20\x00\x00\x02\x80\x00\x00\x00\x80\x00\x00\x03\x50\x00\x99\x99\x99\x99\x00\x04\x20\x00\x00\x00\x00\x00\x00\x00\x00\x00\x00\x00\x00\x00\x00\x00\x00\x00\x00\x00\x00\x00\x00\x00\x00\x00"
 }
 
-pub fn at(date: u32, second: u32) -> Stamp {
-    Stamp { date, second }
+// Plan A with two bytes that stand side by side altered.
+pub fn altered(at: usize, one: u8, two: u8) -> [u8; 66] {
+    let mut b = plan_a();
+    if at < 65 {
+        b[at] = one;
+        b[at + 1] = two;
+    }
+    b
 }
 
-fn loaded(date: u32, record: &[u8; 66]) -> Meter {
-    let m = Meter::fresh();
-    let stamp = at(date, 0);
-    let o = run::load(m, Load { stamp, slot: 1 }, record);
+// The meter after a call.
+fn after(m: Meter, c: Call, record: &[u8]) -> Meter {
+    let o = run::call(m, c, record);
     o.meter
 }
 
 fn planned() -> Meter {
-    let a = plan_a();
-    loaded(20_200_115, &a)
+    after(Meter::fresh(), make::load(20_200_115, 1), &plan_a())
 }
 
 fn tabled() -> Meter {
-    let t = table_c10();
-    loaded(20_150_915, &t)
+    after(Meter::fresh(), make::load(20_150_915, 1), &table_c10())
 }
 
 fn recharged(m: Meter, serial: u32) -> Meter {
-    let stamp = at(20_200_115, 0);
-    let amount = TenThousandths(1_000_000);
-    let o = run::recharge(
-        m,
-        Recharge {
-            stamp,
-            amount,
-            serial,
-        },
-    );
-    o.meter
+    after(m, make::recharge(1_000_000, serial), b"")
 }
 
 fn ready() -> Meter {
-    let m = recharged(planned(), 1);
-    let stamp = at(20_200_115, 0);
-    let o = run::key(m, Key { stamp });
-    o.meter
+    after(recharged(planned(), 1), make::key(), b"")
 }
 
 fn forbidden() -> Meter {
-    let m = ready();
-    let stamp = at(20_200_115, 0);
-    let o = run::command(m, Command { stamp, code: 0 });
-    o.meter
+    after(ready(), make::command(0), b"")
 }
 
 fn with_total(n: u32) -> Meter {
@@ -145,10 +126,7 @@ pub fn with_balance(n: i64) -> Meter {
 }
 
 fn pulsed(m: Meter, date: u32, second: u32, n: u32) -> Meter {
-    let stamp = at(date, second);
-    let count = Hundredths(n);
-    let o = run::pulses(m, Pulses { stamp, count });
-    o.meter
+    after(m, make::pulses(date, second, n), b"")
 }
 
 fn january() -> Meter {
@@ -162,10 +140,7 @@ fn february() -> Meter {
 
 // February, and a tick in the first second of March.
 pub fn march() -> Meter {
-    let m = february();
-    let stamp = at(20_200_301, 0);
-    let o = run::tick(m, Tick { stamp });
-    o.meter
+    after(february(), make::tick(20_200_301, 0), b"")
 }
 
 pub fn meter(k: u32) -> Meter {

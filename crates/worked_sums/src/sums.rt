@@ -1,12 +1,12 @@
 // Document 01, "Worked sums": those that a program checks, the overlap of Tables C.10 and C.11, and
 // gas at midnight of a month's end.
-use crate::calls::PASS;
 use crate::calls::load;
 use crate::calls::pulses;
 use crate::calls::recharge;
 use crate::calls::tick;
 use crate::count::Count;
 use crate::count::say;
+use crate::run::PASS;
 use crate::setup;
 use crate::setup::FEBRUARY;
 use crate::setup::FRESH;

@@ -7,16 +7,4 @@ play-all-requires : tie.Need-play-all-requires
 play-all-requires c κs = ((search needs, search needs), (search needs, search needs))
 
 pub main-spec : {M : Type 1} → statement M
-main-spec =
-    tie.close
-    (tie.spec
-    (search needs)
-    (search needs)
-    (search needs)
-    (search needs)
-    play-all-requires
-    (search needs)
-    (search needs)
-    (search needs)
-    (search needs)
-    (search needs))
+main-spec = tie.close (tie.spec (search needs) (search needs) (search needs) play-all-requires (search needs))

@@ -14,14 +14,14 @@ Inv-loop input₀ room₀ out₀ spot₀ held₀ got₀ turns₀ input room out 
 abbrev μ-loop : tie.MeasureT-loop
 μ-loop input₀ room₀ out₀ spot₀ held₀ got₀ turns₀ input room out spot held got turns = turns
 
-slice-reshare-prefix-play-rest : tie.Need-slice-reshare-prefix-play-rest Inv-loop μ-loop
-slice-reshare-prefix-play-rest c = search needs
+slice-reshare-prefix-finish : tie.Need-slice-reshare-prefix-finish Inv-loop μ-loop
+slice-reshare-prefix-finish c = search needs
 
-slice-aggregate-play-rest : tie.Need-slice-aggregate-play-rest Inv-loop μ-loop
-slice-aggregate-play-rest c = sym (length-take-le _ _ (slice-reshare-prefix-play-rest (c .before)))
+slice-aggregate-finish : tie.Need-slice-aggregate-finish Inv-loop μ-loop
+slice-aggregate-finish c = sym (length-take-le _ _ (slice-reshare-prefix-finish (c .before)))
 
-play-rest-requires : tie.Need-play-rest-requires Inv-loop μ-loop
-play-rest-requires c κs = simp length-take (search needs)
+finish-requires : tie.Need-finish-requires Inv-loop μ-loop
+finish-requires c κs = simp length-take (search needs)
 
 pub play-all-spec : {M : Type 1} → statement M
 play-all-spec =
@@ -37,9 +37,10 @@ play-all-spec =
     (search needs)
     (search needs)
     (search needs)
-    slice-reshare-prefix-play-rest
-    slice-aggregate-play-rest
-    play-rest-requires
+    (search needs)
+    slice-reshare-prefix-finish
+    slice-aggregate-finish
+    finish-requires
     (search needs)
     (search needs)
     (search needs)

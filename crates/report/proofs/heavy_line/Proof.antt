@@ -1,4 +1,5 @@
 -- The record is put behind the day's number; or the refusal's line.
+use mathlib.Core.List.{append-assoc}
 use native.Mathlib.Omega.{arith}
 use borrow.Author.Needs.{needs}
 use Rattle.place.proofs.Placed.{then, first}
@@ -11,18 +12,13 @@ returns c = rw (c .before .before .before .before .before .h .given .1) (c .befo
 returns-2 : tie.Need-returns-2
 returns-2 c =
     let r = c .before .before in
-    let w = r .before .before .before .before in
-    let n = w .before .before .before .before .before in
-    let h = n .before .before .before .before in
-    first (rw (h .h2 .given .1)) (omega arith) (then (n .item .ensures) (then (w .word .ensures) (r .record-at .ensures)))
+    let n = r .before .before .before .before in
+    first (rw (n .before .before .before .h2 .given .1, append-assoc)) (omega arith) (then (n .number .ensures) (r .record-at .ensures))
 
 pub heavy-line-spec : {M : Type 1} → statement M
 heavy-line-spec =
     tie.close
     (tie.spec
-    (search needs)
-    (search needs)
-    (search needs)
     (search needs)
     (search needs)
     (search needs)

@@ -1,6 +1,6 @@
 -- After i turns the first i codes stand behind `ok`, at most 28 bytes each; the newline follows.
 use mathlib.Core.Path.{_≡_, refl, ap, _∙_}
-use Prim.Native.Nat.{_≤_, _+_, _-_, _*_, min}
+use Prim.Native.Nat.{_≤_, _-_, _*_, min}
 use native.Mathlib.Omega.{arith}
 use borrow.Author.Needs.{needs}
 use lib.ListN.{length, take}

@@ -1,4 +1,4 @@
--- The newline is put behind the word and the number.
+-- The number is put behind the word.
 use mathlib.Core.Path.{refl}
 use native.Mathlib.Omega.{arith}
 use borrow.Author.Needs.{needs}
@@ -10,14 +10,13 @@ use Rattle.report.proofs.refused.Tie as tie
 returns : tie.Need-returns
 unfolding refusedLine
 returns c =
-    let b = c .before .before .before .before .before .before .before in
-    first refl (omega arith) (then (b .item .ensures) (c .before .before .word .ensures))
+    let n = c .before .before in
+    first refl (omega arith) (then (n .before .before .before .before .word .ensures) (n .number .ensures))
 
 pub refused-spec : {M : Type 1} → statement M
 refused-spec =
     tie.close
     (tie.spec
-    (search needs)
     (search needs)
     (search needs)
     (search needs)

@@ -1,4 +1,5 @@
--- The number, the price and the newline are put one behind another; or the refusal's line.
+-- The price is put behind the number; or the refusal's line.
+use mathlib.Core.List.{append-assoc}
 use native.Mathlib.Omega.{arith}
 use borrow.Author.Needs.{needs}
 use Rattle.place.proofs.Placed.{then, first}
@@ -10,20 +11,14 @@ returns c = rw (c .before .before .before .before .before .s .given .1) (c .befo
 
 returns-2 : tie.Need-returns-2
 returns-2 c =
-    let w = c .before .before in
-    let p = w .before .before .before .before .before in
-    let n = p .before .before .before .before .before in
-    let s = n .before .before .before .before .before in
-    first (rw (s .s2 .given .1)) (omega arith) (then (n .item .ensures) (then (p .item2 .ensures) (w .word .ensures)))
+    let p = c .before .before in
+    let n = p .before .before .before .before in
+    first (rw (n .before .before .before .before .s2 .given .1, append-assoc)) (omega arith) (then (n .number .ensures) (p .number2 .ensures))
 
 pub step-line-spec : {M : Type 1} → statement M
 step-line-spec =
     tie.close
     (tie.spec
-    (search needs)
-    (search needs)
-    (search needs)
-    (search needs)
     (search needs)
     (search needs)
     (search needs)
