@@ -312,24 +312,35 @@ pub fn run_lent(meter: *mut Meter, call: &Call) -> Reply {
     }
 }
 
+/// A question over a meter that lies between guard bytes: after it every byte must be as it was, of a broken meter too.
+fn asked<T>(meter: &Meter, question: impl FnOnce(*const Meter) -> T) -> T {
+    let mut lent = Guarded { before: GUARD, meter: *meter, after: GUARD };
+    let place: *mut Guarded = std::hint::black_box(&mut lent);
+    let bytes = || unsafe { std::slice::from_raw_parts(place as *const u8, std::mem::size_of::<Guarded>()) };
+    let before = bytes().to_vec();
+    let answer = question(unsafe { std::ptr::addr_of!((*place).meter) });
+    assert!(std::hint::black_box(bytes()) == before, "a query wrote to the meter that was lent to it");
+    answer
+}
+
 pub fn step(meter: &Meter) -> StepReply {
-    unsafe { harpdapple_step(meter) }
+    asked(meter, |lent| unsafe { harpdapple_step(lent) })
 }
 
 pub fn display(meter: &Meter) -> DisplayReply {
-    unsafe { harpdapple_display(meter) }
+    asked(meter, |lent| unsafe { harpdapple_display(lent) })
 }
 
 pub fn day(meter: &Meter, k: usize) -> RecordReply {
-    unsafe { harpdapple_day(meter, k) }
+    asked(meter, |lent| unsafe { harpdapple_day(lent, k) })
 }
 
 pub fn month(meter: &Meter, k: usize) -> RecordReply {
-    unsafe { harpdapple_month(meter, k) }
+    asked(meter, |lent| unsafe { harpdapple_month(lent, k) })
 }
 
 pub fn heavy(meter: &Meter, volume: u32) -> RecordReply {
-    unsafe { harpdapple_heavy(meter, volume) }
+    asked(meter, |lent| unsafe { harpdapple_heavy(lent, volume) })
 }
 
 pub fn sum(days: &[Record]) -> SumReply {
