@@ -125,7 +125,7 @@ fn proved_pulsed(turns: u32, n: u32) -> library::Meter {
 
 fn proved_display(turns: u32, n: u32) -> u64 {
     let m = proved_aged(turns);
-    (0..n).map(|_| library::display(black_box(&m)).shown as u64).sum()
+    (0..n).map(|_| library::display_lent(black_box(&m)).shown as u64).sum()
 }
 
 fn proved_read(s: &[u8]) -> u32 {

@@ -327,8 +327,13 @@ pub fn step(meter: &Meter) -> StepReply {
     asked(meter, |lent| unsafe { harpdapple_step(lent) })
 }
 
+/// On a meter where it lies, as a host asks.
+pub fn display_lent(meter: *const Meter) -> DisplayReply {
+    unsafe { harpdapple_display(meter) }
+}
+
 pub fn display(meter: &Meter) -> DisplayReply {
-    asked(meter, |lent| unsafe { harpdapple_display(lent) })
+    asked(meter, display_lent)
 }
 
 pub fn day(meter: &Meter, k: usize) -> RecordReply {
