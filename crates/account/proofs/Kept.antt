@@ -8,35 +8,35 @@ use borrow.Author.Tests.{leb-true, ltb-true, le-leb, eqb-true, eqb-false, not-tr
 use lib.Dec.{ltb, eqb}
 use lib.IntN.{pos, ◌+ℤ◌}
 use lib.Signed.{le_z}
-use Rattle.units.specs.Money.{Small, inBounds, inMillionths, takes, highestBalance}
+use Rattle.units.specs.Money.{Small, in_bounds, in_millionths, takes, highest_balance}
 use Rattle.units.proofs.Integers.{plus, le-true, lt-false, small-dn}
 use Rattle.units.proofs.Balance.{are-bounds, in_small, debit-in, credit-in}
 use Rattle.answer.specs.declared.Answer.TheVariants.{Accepted}
 use Rattle.answer.proofs.Tests.{split, need-both}
 use Rattle.account.specs.declared.Account.{Account}
-use Rattle.account.specs.Account.{highestAlarm, rechargeRefusal, recharged, alarmsGood, alarmed, charged, accountGood, isFreshAccount}
+use Rattle.account.specs.Account.{highest_alarm, recharge_refusal, recharged, alarms_good, alarmed, charged, account_good, is_fresh_account}
 
 -- the bounds in parts, both ways
 record Parts (a : Account) (total : ℕ) : Type 0 where
   serial : a.serial ≤ 65535
-  alarms : alarmsGood a.one a.two ≡ true
-  bounds : inBounds highestBalance a.balance.0 total ≡ true
+  alarms : alarms_good a.one a.two ≡ true
+  bounds : in_bounds highest_balance a.balance.0 total ≡ true
 
-good-parts : (a : Account) (total : ℕ) → accountGood a total ≡ true → Parts a total
-unfolding accountGood
+good-parts : (a : Account) (total : ℕ) → account_good a total ≡ true → Parts a total
+unfolding account_good
 good-parts a total e =
     let s = split e in
     let r = split s.1 in
     record { serial = leb-true _ _ s.0; alarms = r.0; bounds = r.1 }
 
-parts-good : (a : Account) (total : ℕ) → Parts a total → accountGood a total ≡ true
-unfolding accountGood
+parts-good : (a : Account) (total : ℕ) → Parts a total → account_good a total ≡ true
+unfolding account_good
 parts-good a total p = rw (le-leb a.serial 65535 p.serial, p.alarms) p.bounds
 
 -- the alarms in order, and at most 999,999
-pub alarms-order : (one two : ℕ) → alarmsGood one two ≡ true → (two < one) × (one ≤ 999999)
-unfolding alarmsGood
-alarms-order one two e = let o = split (split {a = ltb 0 two} e).1 in (ltb-true two one o.0, leb-true one highestAlarm o.1)
+pub alarms-order : (one two : ℕ) → alarms_good one two ≡ true → (two < one) × (one ≤ 999999)
+unfolding alarms_good
+alarms-order one two e = let o = split (split {a = ltb 0 two} e).1 in (ltb-true two one o.0, leb-true one highest_alarm o.1)
 
 -- what the bounds of an account tell a caller
 pub record Room (a : Account) (total : ℕ) : Type 0 where
@@ -44,16 +44,16 @@ pub record Room (a : Account) (total : ℕ) : Type 0 where
   pub serial : a.serial ≤ 65535
   pub one : a.one ≤ 999999
   pub two : a.two ≤ 999999
-  pub bounds : inBounds highestBalance a.balance.0 total ≡ true
-  pub alarms : alarmsGood a.one a.two ≡ true
+  pub bounds : in_bounds highest_balance a.balance.0 total ≡ true
+  pub alarms : alarms_good a.one a.two ≡ true
 
 -- an account in its bounds has that room
-pub account-room : (a : Account) (total : ℕ) → accountGood a total ≡ true → total ≤ 99999999 → Room a total
+pub account-room : (a : Account) (total : ℕ) → account_good a total ≡ true → total ≤ 99999999 → Room a total
 account-room a total e h =
     let p = good-parts a total e in
     let o = alarms-order a.one a.two p.alarms in
     record {
-      small = in_small highestBalance a.balance.0 total (omega arith) h p.bounds;
+      small = in_small highest_balance a.balance.0 total (omega arith) h p.bounds;
       serial = p.serial;
       one = o.1;
       two = omega arith;
@@ -62,11 +62,11 @@ account-room a total e h =
     }
 
 -- a charge of n more hundredths keeps the bounds
-pub charged-good : (a : Account) (total n cost : ℕ) → cost ≤ n * 99999999 → accountGood a total ≡ true → accountGood (charged a cost) (total + n) ≡ true
+pub charged-good : (a : Account) (total n cost : ℕ) → cost ≤ n * 99999999 → account_good a total ≡ true → account_good (charged a cost) (total + n) ≡ true
 charged-good a total n cost h e =
     let p = good-parts a total e in
     parts-good (charged a cost) (total + n)
-    (record { serial = p.serial; alarms = p.alarms; bounds = debit-in highestBalance a.balance.0 total n cost h p.bounds })
+    (record { serial = p.serial; alarms = p.alarms; bounds = debit-in highest_balance a.balance.0 total n cost h p.bounds })
 
 -- the tests that an accepted recharge has passed
 pub record Vetted (a : Account) (amount serial : ℕ) : Type 0 where
@@ -74,11 +74,11 @@ pub record Vetted (a : Account) (amount serial : ℕ) : Type 0 where
   pub high : serial ≤ 65535
   pub next : serial ≡ a.serial + 1
   pub some : 1 ≤ amount
-  pub takes : le_z (a.balance.0 +ℤ pos (inMillionths amount)) (pos highestBalance) ≡ true
+  pub takes : le_z (a.balance.0 +ℤ pos (in_millionths amount)) (pos highest_balance) ≡ true
 
 -- an accepted recharge has passed them
-pub vetted : (a : Account) (amount serial : ℕ) → rechargeRefusal a amount serial ≡ Accepted → Vetted a amount serial
-unfolding rechargeRefusal
+pub vetted : (a : Account) (amount serial : ℕ) → recharge_refusal a amount serial ≡ Accepted → Vetted a amount serial
+unfolding recharge_refusal
 vetted a amount serial e =
     let v15 = need-both 15 e in
     let v16 = need-both 16 v15.1 in
@@ -96,33 +96,33 @@ vetted a amount serial e =
     }
 
 -- an accepted recharge keeps the bounds
-pub recharged-good : (a : Account) (total amount serial : ℕ) → rechargeRefusal a amount serial ≡ Accepted → accountGood a total ≡ true
-    → accountGood (recharged a amount serial) total ≡ true
+pub recharged-good : (a : Account) (total amount serial : ℕ) → recharge_refusal a amount serial ≡ Accepted → account_good a total ≡ true
+    → account_good (recharged a amount serial) total ≡ true
 recharged-good a total amount serial r e =
     let p = good-parts a total e in
     let v = vetted a amount serial r in
     parts-good (recharged a amount serial) total
-    (record { serial = v.high; alarms = p.alarms; bounds = credit-in highestBalance a.balance.0 total (inMillionths amount) v.takes p.bounds })
+    (record { serial = v.high; alarms = p.alarms; bounds = credit-in highest_balance a.balance.0 total (in_millionths amount) v.takes p.bounds })
 
 -- the amount of an accepted recharge fits
-pub recharge-small : (a : Account) (total amount serial : ℕ) → accountGood a total ≡ true → total ≤ 99999999 → rechargeRefusal a amount serial ≡ Accepted
+pub recharge-small : (a : Account) (total amount serial : ℕ) → account_good a total ≡ true → total ≤ 99999999 → recharge_refusal a amount serial ≡ Accepted
     → amount ≤ 2 ^ 55
 recharge-small a total amount serial e h r =
     let z = a.balance.0 in
-    let x = inMillionths amount in
+    let x = in_millionths amount in
     let v = vetted a amount serial r in
     let room = account-room a total e h in
-    omega (arith, le-true (z +ℤ pos x) (pos highestBalance) v.takes, plus z (pos x), small-dn z room.small)
+    omega (arith, le-true (z +ℤ pos x) (pos highest_balance) v.takes, plus z (pos x), small-dn z room.small)
 
 -- new alarms keep the bounds
-pub alarmed-good : (a : Account) (total one two : ℕ) → alarmsGood one two ≡ true → accountGood a total ≡ true → accountGood (alarmed a one two) total ≡ true
+pub alarmed-good : (a : Account) (total one two : ℕ) → alarms_good one two ≡ true → account_good a total ≡ true → account_good (alarmed a one two) total ≡ true
 alarmed-good a total one two g e =
     let p = good-parts a total e in
     parts-good (alarmed a one two) total (record { serial = p.serial; alarms = g; bounds = p.bounds })
 
 -- a fresh account is within its bounds
-pub fresh-account : (a : Account) (total : ℕ) → isFreshAccount a ≡ true → accountGood a total ≡ true
-unfolding isFreshAccount alarmsGood
+pub fresh-account : (a : Account) (total : ℕ) → is_fresh_account a ≡ true → account_good a total ≡ true
+unfolding is_fresh_account alarms_good
 fresh-account a total h =
     let z = a.balance.0 in
     let low = split h in
@@ -135,5 +135,5 @@ fresh-account a total h =
     parts-good a total (record {
       serial = omega arith;
       alarms = rw (eqb-true a.one 20 o.0, eqb-true a.two 5 o.1);
-      bounds = are-bounds highestBalance z total (omega arith) (omega arith);
+      bounds = are-bounds highest_balance z total (omega arith) (omega arith);
     })

@@ -8,11 +8,11 @@ use borrow.Author.Tests.{lt-ltb}
 use lib.ListN.{length, set, length-set}
 use lib.Seq.{take-suc-set}
 use Rattle.account.specs.declared.Codes.{Codes}
-use Rattle.account.specs.Codes.{noCodes, noted, noteAll, told}
+use Rattle.account.specs.Codes.{no_codes, noted, note_all, told}
 
 -- two lists noted one after the other are their join noted
-pub note-append : (k : Codes) (a b : List ℕ) → noteAll (noteAll k a) b ≡ noteAll k (a ++ b)
-unfolding noteAll
+pub note-append : (k : Codes) (a b : List ℕ) → note_all (note_all k a) b ≡ note_all k (a ++ b)
+unfolding note_all
 note-append k [] b = refl
 note-append k (c ∷ a) b = note-append (noted k c) a b
 
@@ -28,15 +28,15 @@ told-after : (k : Codes) (c : ℕ) → k.count < length k.said → told (after k
 told-after k c h = rw (add-one k.count) (take-suc-set k.said k.count c h)
 
 -- a list for which there is room stands behind the codes that are there
-pub told_more : (k : Codes) (cs : List ℕ) → length k.said ≡ 8 → k.count + length cs ≤ 8 → told (noteAll k cs) ≡ told k ++ cs
-unfolding noteAll
+pub told_more : (k : Codes) (cs : List ℕ) → length k.said ≡ 8 → k.count + length cs ≤ 8 → told (note_all k cs) ≡ told k ++ cs
+unfolding note_all
 told_more k [] e h = sym (append-nil (told k))
 told_more k (c ∷ cs) e h =
-    ap (λ (m : Codes). told (noteAll m cs)) (noted-is k c (omega arith))
+    ap (λ (m : Codes). told (note_all m cs)) (noted-is k c (omega arith))
     ∙ told_more (after k c) cs (length-set k.said k.count c ∙ e) (omega arith)
     ∙ ap (λ (l : List ℕ). l ++ cs) (told-after k c (omega arith))
     ∙ append_assoc (told k) (c ∷ []) cs
 
 -- the array holds exactly the list, where it is not longer than eight
-pub told-note : (cs : List ℕ) → length cs ≤ 8 → told (noteAll noCodes cs) ≡ cs
-told-note cs h = told_more noCodes cs refl (omega arith)
+pub told-note : (cs : List ℕ) → length cs ≤ 8 → told (note_all no_codes cs) ≡ cs
+told-note cs h = told_more no_codes cs refl (omega arith)

@@ -3,65 +3,65 @@ use Rattle.std.specs.Prelude.{Bool, not, ◌&&◌, ℕ, ◌+◌, leb, ltb, eqb, 
 use Rattle.std.specs.Int.Signed.{le_z, lt_z}
 use Rattle.units.specs.declared.Millionths.{Millionths}
 use Rattle.units.specs.Volume.{price}
-use Rattle.units.specs.Money.{money, inMillionths, credited, debited, takes, inBounds, highestBalance}
+use Rattle.units.specs.Money.{money, in_millionths, credited, debited, takes, in_bounds, highest_balance}
 use Rattle.answer.specs.declared.Answer.{Answer}
 use Rattle.answer.specs.declared.Answer.TheVariants.{Accepted}
 use Rattle.answer.specs.Answer.{need}
 use Rattle.account.specs.declared.Account.{Account}
 
 -- the highest serial, and the highest alarm in whole yuan
-abbrev pub highestSerial : ℕ
-highestSerial = 65535
+abbrev pub highest_serial : ℕ
+highest_serial = 65535
 
-abbrev pub highestAlarm : ℕ
-highestAlarm = 999999
+abbrev pub highest_alarm : ℕ
+highest_alarm = 999999
 
 -- "Fresh: .. all amounts 0, .. alarms 20 and 5 yuan": no serial yet
-abbrev pub freshAccount : Account
-freshAccount = record { balance = money (pos 0); serial = 0; one = 20; two = 5 }
+abbrev pub fresh_account : Account
+fresh_account = record { balance = money (pos 0); serial = 0; one = 20; two = 5 }
 
 -- the account with another balance
-abbrev pub withBalance : Account → Millionths → Account
-withBalance a b = record { balance = b; serial = a.serial; one = a.one; two = a.two }
+abbrev pub with_balance : Account → Millionths → Account
+with_balance a b = record { balance = b; serial = a.serial; one = a.one; two = a.two }
 
 -- "15, serial 0 or above 65,535; 16, the last serial again; 17, below it; 18, more than one above; 19, amount 0; 20, balance would
 -- pass 999,999.99 yuan"
-unfoldable pub rechargeRefusal : Account → ℕ → ℕ → Answer
-rechargeRefusal a amount serial =
-    need (leb 1 serial && leb serial highestSerial) 15
+unfoldable pub recharge_refusal : Account → ℕ → ℕ → Answer
+recharge_refusal a amount serial =
+    need (leb 1 serial && leb serial highest_serial) 15
     (need (not (eqb serial a.serial)) 16
     (need (leb a.serial serial) 17
     (need (leb serial (a.serial + 1)) 18
     (need (leb 1 amount) 19
-    (need (takes highestBalance a.balance (price amount)) 20 Accepted)))))
+    (need (takes highest_balance a.balance (price amount)) 20 Accepted)))))
 
 -- "Recharge: balance grows"
 abbrev pub recharged : Account → ℕ → ℕ → Account
 recharged a amount serial = record {
-  balance = credited a.balance (inMillionths amount);
+  balance = credited a.balance (in_millionths amount);
   serial = serial;
   one = a.one;
   two = a.two;
 }
 
 -- "23, unless 0 < alarm 2 < alarm 1 and alarm 1 at most 999,999"
-unfoldable pub alarmsGood : ℕ → ℕ → Bool
-alarmsGood one two = ltb 0 two && (ltb two one && leb one highestAlarm)
+unfoldable pub alarms_good : ℕ → ℕ → Bool
+alarms_good one two = ltb 0 two && (ltb two one && leb one highest_alarm)
 
 abbrev pub alarmed : Account → ℕ → ℕ → Account
 alarmed a one two = record { balance = a.balance; serial = a.serial; one = one; two = two }
 
 -- "the balance falls by"
 abbrev pub charged : Account → ℕ → Account
-charged a cost = withBalance a (debited a.balance cost)
+charged a cost = with_balance a (debited a.balance cost)
 
 -- "last serial, alarms .. are as the refusals allow", and the balance in its bounds
-unfoldable pub accountGood : Account → ℕ → Bool
-accountGood a total =
-    leb a.serial highestSerial && (alarmsGood a.one a.two && inBounds highestBalance a.balance.0 total)
+unfoldable pub account_good : Account → ℕ → Bool
+account_good a total =
+    leb a.serial highest_serial && (alarms_good a.one a.two && in_bounds highest_balance a.balance.0 total)
 
 -- the account of a fresh meter; its balance is 0
-unfoldable pub isFreshAccount : Account → Bool
-isFreshAccount a =
+unfoldable pub is_fresh_account : Account → Bool
+is_fresh_account a =
     le_z a.balance.0 (pos 0) && (not (lt_z a.balance.0 (pos 0))
-    && (eqb a.serial freshAccount.serial && (eqb a.one freshAccount.one && eqb a.two freshAccount.two)))
+    && (eqb a.serial fresh_account.serial && (eqb a.one fresh_account.one && eqb a.two fresh_account.two)))

@@ -1,7 +1,7 @@
 // Event codes: each call's in their order.
 ghost use Rattle.std.specs.Prelude.{◌≡◌};
-ghost use Rattle.account.specs.Codes.{noCodes, noted, codeIf, noteAll};
-ghost use Rattle.account.specs.Valve.{expiryCodes};
+ghost use Rattle.account.specs.Codes.{no_codes, noted, code_if, note_all};
+ghost use Rattle.account.specs.Valve.{expiry_codes};
 
 use crate::Codes;
 
@@ -31,7 +31,7 @@ impl Codes {
     pub const IN_DEBT: u32 = 0x33;
 
     pub fn none() -> Codes
-        ensures { result ≡ noCodes }
+        ensures { result ≡ no_codes }
     {
         let said = [0u32; 8];
         Codes { count: 0, said }
@@ -53,7 +53,7 @@ impl Codes {
 
     // One code more where `given` holds.
     pub fn note_if(self, given: bool, code: u32) -> Codes
-        ensures { result ≡ noteAll self (codeIf given code) }
+        ensures { result ≡ note_all self (code_if given code) }
     {
         if given {
             return self.note(code);
@@ -63,7 +63,7 @@ impl Codes {
 
     // The codes of turning the day: whether a plan was in force, whether one is, and the valve.
     pub fn expiry(was: bool, is: bool, opened: bool) -> Codes
-        ensures { result ≡ noteAll noCodes (expiryCodes was is opened) }
+        ensures { result ≡ note_all no_codes (expiry_codes was is opened) }
     {
         Codes::none()
             .note_if(was & !is, Codes::PLAN_ENDED)

@@ -4,8 +4,8 @@ mod thresholds; // thresholds.rt: the valve, and the thresholds that close it
 
 ghost use Rattle.std.specs.Prelude.{◌≡◌, ◌≤◌, ◌<◌, ◌^◌};
 ghost use Rattle.units.specs.Money.{Small};
-ghost use Rattle.account.specs.Account.{freshAccount, isFreshAccount, rechargeRefusal, recharged, alarmsGood, alarmed, charged, accountGood};
-ghost use Rattle.account.specs.Fall.{fallOf};
+ghost use Rattle.account.specs.Account.{fresh_account, is_fresh_account, recharge_refusal, recharged, alarms_good, alarmed, charged, account_good};
+ghost use Rattle.account.specs.Fall.{fall_of};
 
 use answer::Answer;
 use units::{Charge, Hundredths, Millionths, TenThousandths};
@@ -45,7 +45,7 @@ pub struct Fall {
 
 // Refusal 23 unless this holds.
 pub fn alarms_good(one: u32, two: u32) -> bool
-    ensures { result ≡ alarmsGood one two }
+    ensures { result ≡ alarms_good one two }
 {
     (0 < two) & ((two < one) & (one <= Account::MOST_ALARM))
 }
@@ -64,7 +64,7 @@ impl Account {
 
     // Balance 0, no serial yet, the alarms of a fresh meter.
     pub fn fresh() -> Account
-        ensures { result ≡ freshAccount }
+        ensures { result ≡ fresh_account }
     {
         Account {
             balance: Millionths(0),
@@ -75,7 +75,7 @@ impl Account {
     }
 
     pub fn is_fresh(self) -> bool
-        ensures { result ≡ isFreshAccount self }
+        ensures { result ≡ is_fresh_account self }
     {
         self.balance.at_or_below(Charge(0))
             & (!self.balance.negative()
@@ -85,7 +85,7 @@ impl Account {
 
     // The bounds of an account that a host hands in.
     pub fn is_good(self, total: Hundredths) -> bool
-        ensures { result ≡ accountGood self total.0 }
+        ensures { result ≡ account_good self total.0 }
     {
         (self.serial <= Account::MOST_SERIAL)
             & (alarms_good(self.one, self.two) & self.balance.in_bounds(Account::TOP, total))
@@ -95,7 +95,7 @@ impl Account {
     pub fn vet(self, amount: TenThousandths, serial: u32) -> Answer
         requires small { Small self.balance.0 }
         requires serial_bound { self.serial ≤ 65535 }
-        ensures { result ≡ rechargeRefusal self amount.0 serial }
+        ensures { result ≡ recharge_refusal self amount.0 serial }
     {
         Answer::need(
             (1 <= serial) & (serial <= Account::MOST_SERIAL),
@@ -156,7 +156,7 @@ impl Account {
 
     // The balance falls to `is`: the valve and the codes.
     pub fn fall(self, is: Millionths, opened: bool, codes: Codes) -> Fall
-        ensures { result ≡ fallOf self is.0 opened codes }
+        ensures { result ≡ fall_of self is.0 opened codes }
     {
         let was = self.balance;
         let mut f = Fall { opened, codes };

@@ -1,8 +1,8 @@
 // The valve with the station mark, and the balance's thresholds on which it closes.
 ghost use Rattle.std.specs.Prelude.{◌≡◌, not, ◌&&◌, ◌<◌, ◌^◌, pos};
 ghost use Rattle.std.specs.Int.Signed.{le_z, lt_z};
-ghost use Rattle.account.specs.Codes.{noteAll};
-ghost use Rattle.account.specs.Valve.{freshValve, isFreshValve, valveSet, valveKept, commanded, commandCodes, keyCodes};
+ghost use Rattle.account.specs.Codes.{note_all};
+ghost use Rattle.account.specs.Valve.{fresh_valve, is_fresh_valve, valve_set, valve_kept, commanded, command_codes, key_codes};
 ghost use Rattle.account.specs.Fall.{struck};
 
 use crate::{Codes, Fall, Valve};
@@ -11,7 +11,7 @@ use units::{Charge, Millionths};
 impl Valve {
     // Mark "allow" and closed.
     pub fn fresh() -> Valve
-        ensures { result ≡ freshValve }
+        ensures { result ≡ fresh_valve }
     {
         Valve {
             allow: true,
@@ -20,13 +20,13 @@ impl Valve {
     }
 
     pub fn is_fresh(self) -> bool
-        ensures { result ≡ isFreshValve self }
+        ensures { result ≡ is_fresh_valve self }
     {
         self.allow & !self.opened
     }
 
     pub fn set(self, opened: bool) -> Valve
-        ensures { result ≡ valveSet self opened }
+        ensures { result ≡ valve_set self opened }
     {
         let mut next = self;
         next.opened = opened;
@@ -35,7 +35,7 @@ impl Valve {
 
     // Open only where it was and `still` holds.
     pub fn kept(self, still: bool) -> Valve
-        ensures { result ≡ valveKept self still }
+        ensures { result ≡ valve_kept self still }
     {
         self.set(self.opened & still)
     }
@@ -50,7 +50,7 @@ impl Valve {
     }
 
     pub fn command_codes(self, allow: bool, codes: Codes) -> Codes
-        ensures { result ≡ noteAll codes (commandCodes self allow) }
+        ensures { result ≡ note_all codes (command_codes self allow) }
     {
         codes
             .note(Codes::COMMANDED)
@@ -58,7 +58,7 @@ impl Valve {
     }
 
     pub fn key_codes(self, codes: Codes) -> Codes
-        ensures { result ≡ noteAll codes (keyCodes self) }
+        ensures { result ≡ note_all codes (key_codes self) }
     {
         codes.note_if(!self.opened, Codes::VALVE_OPENED)
     }

@@ -12,9 +12,9 @@ abbrev pub next : Answer → Answer → Answer
 next Accepted k = k
 next (Refused n) k = Refused n
 
-abbrev pub isAccepted : Answer → Bool
-isAccepted Accepted = true
-isAccepted (Refused n) = false
+abbrev pub is_accepted : Answer → Bool
+is_accepted Accepted = true
+is_accepted (Refused n) = false
 
 -- the number that refuses; 0 where the answer accepts
 abbrev pub number_of : Answer → ℕ

@@ -1,6 +1,6 @@
 // What an operation answers: accepted, or the one number of document 01, "Refusal by operation".
 ghost use Rattle.std.specs.Prelude.{◌≡◌};
-ghost use Rattle.answer.specs.Answer.{need, next, isAccepted};
+ghost use Rattle.answer.specs.Answer.{need, next, is_accepted};
 
 #[derive(Drop)]
 pub enum Answer {
@@ -31,7 +31,7 @@ impl Answer {
     }
 
     pub fn accepted(self) -> bool
-        ensures { result ≡ isAccepted self }
+        ensures { result ≡ is_accepted self }
     {
         let a = self;
         match a {

@@ -5,12 +5,12 @@ use Prim.Native.Nat.{◌≤◌}
 use native.Mathlib.Omega.{arith}
 use lib.Dec.{leb, ltb, eqb}
 use borrow.Author.Tests.{ltb-true, eqb-true}
-use Rattle.calendar.specs.Stamp.{notBefore}
+use Rattle.calendar.specs.Stamp.{not_before}
 use Rattle.calendar.specs.declared.Stamp.{Stamp}
 use Rattle.answer.proofs.Tests.{cases, split}
 
-pub not-before-date : (a b : Stamp) → notBefore a b ≡ true → a.date ≤ b.date
-unfolding notBefore
+pub not-before-date : (a b : Stamp) → not_before a b ≡ true → a.date ≤ b.date
+unfolding not_before
 not-before-date a b h =
     cases (ltb a.date b.date)
     (λ e. omega (arith, ltb-true a.date b.date e))

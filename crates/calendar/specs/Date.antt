@@ -2,36 +2,36 @@
 use Rattle.std.specs.Prelude.{Bool, cond, ◌&&◌, ◌||◌, ℕ, ◌/◌, ◌%◌, leb, eqb}
 
 -- YYYYMMDD
-abbrev pub yearOf : ℕ → ℕ
-yearOf d = d / 10000
+abbrev pub year_of : ℕ → ℕ
+year_of d = d / 10000
 
-abbrev pub monthOf : ℕ → ℕ
-monthOf d = d / 100 % 100
+abbrev pub month_of : ℕ → ℕ
+month_of d = d / 100 % 100
 
-abbrev pub dayOf : ℕ → ℕ
-dayOf d = d % 100
+abbrev pub day_of : ℕ → ℕ
+day_of d = d % 100
 
-abbrev pub firstDate : ℕ
-firstDate = 20000101
+abbrev pub first_date : ℕ
+first_date = 20000101
 
-abbrev pub lastDate : ℕ
-lastDate = 20991231
+abbrev pub last_date : ℕ
+last_date = 20991231
 
 -- "every fourth year from 2000 is a leap year"
-unfoldable pub isLeap : ℕ → Bool
-isLeap y = eqb (y % 4) 0
+unfoldable pub is_leap : ℕ → Bool
+is_leap y = eqb (y % 4) 0
 
 -- April, June, September and November
-abbrev pub isShort : ℕ → Bool
-isShort m = eqb m 4 || (eqb m 6 || (eqb m 9 || eqb m 11))
+abbrev pub is_short : ℕ → Bool
+is_short m = eqb m 4 || (eqb m 6 || (eqb m 9 || eqb m 11))
 
 -- how many days month m of the year y has
-unfoldable pub daysIn : ℕ → ℕ → ℕ
-daysIn y m = cond (eqb m 2) (cond (isLeap y) 29 28) (cond (isShort m) 30 31)
+unfoldable pub days_in : ℕ → ℕ → ℕ
+days_in y m = cond (eqb m 2) (cond (is_leap y) 29 28) (cond (is_short m) 30 31)
 
 -- "real in the calendar"
-unfoldable pub isDay : ℕ → ℕ → ℕ → Bool
-isDay y m d = leb 1 m && (leb m 12 && (leb 1 d && leb d (daysIn y m)))
+unfoldable pub is_day : ℕ → ℕ → ℕ → Bool
+is_day y m d = leb 1 m && (leb m 12 && (leb 1 d && leb d (days_in y m)))
 
-unfoldable pub isDate : ℕ → Bool
-isDate d = leb firstDate d && (leb d lastDate && isDay (yearOf d) (monthOf d) (dayOf d))
+unfoldable pub is_date : ℕ → Bool
+is_date d = leb first_date d && (leb d last_date && is_day (year_of d) (month_of d) (day_of d))

@@ -1,9 +1,9 @@
 // Document 01, "Dates" and the calendar part of "Days in force and cycles".
 ghost use Rattle.std.specs.Prelude.{◌≡◌, true, ◌-◌, ◌≤◌, ◌<◌};
-ghost use Rattle.calendar.specs.Date.{isLeap, daysIn, isDay, isDate};
-ghost use Rattle.calendar.specs.Stamp.{isStamp, dated, notBefore};
-ghost use Rattle.calendar.specs.DayNumber.{daysOfMonths, daysOfYears, dayNumber};
-ghost use Rattle.calendar.specs.Cycle.{monthStart, quarterMonth, quarterStart, yearStart, cycleStart, run_of};
+ghost use Rattle.calendar.specs.Date.{is_leap, days_in, is_day, is_date};
+ghost use Rattle.calendar.specs.Stamp.{is_stamp, dated, not_before};
+ghost use Rattle.calendar.specs.DayNumber.{days_of_months, days_of_years, day_number};
+ghost use Rattle.calendar.specs.Cycle.{month_start, quarter_month, quarter_start, year_start, cycle_start, run_of};
 
 // The first and the last date of the calendar.
 const FIRST_DATE: u32 = 20_000_101;
@@ -26,13 +26,13 @@ pub enum Dated {
 }
 
 fn is_leap(y: u32) -> bool
-    ensures { result ≡ isLeap y }
+    ensures { result ≡ is_leap y }
 {
     y % 4 == 0
 }
 
 fn days_in(y: u32, m: u32) -> u32
-    ensures { result ≡ daysIn y m }
+    ensures { result ≡ days_in y m }
 {
     match m {
         2 => february(y),
@@ -42,19 +42,19 @@ fn days_in(y: u32, m: u32) -> u32
 }
 
 fn february(y: u32) -> u32
-    ensures { result ≡ daysIn y 2 }
+    ensures { result ≡ days_in y 2 }
 {
     if is_leap(y) { 29 } else { 28 }
 }
 
 fn is_day(y: u32, m: u32, d: u32) -> bool
-    ensures { result ≡ isDay y m d }
+    ensures { result ≡ is_day y m d }
 {
     1 <= m && (m <= 12 && (1 <= d && d <= days_in(y, m)))
 }
 
 pub fn is_date(d: u32) -> bool
-    ensures { result ≡ isDate d }
+    ensures { result ≡ is_date d }
 {
     FIRST_DATE <= d && (d <= LAST_DATE && is_day(d / 10_000, d / 100 % 100, d % 100))
 }
@@ -63,7 +63,7 @@ impl Stamp {
     pub const LAST_SECOND: u32 = 86_399;
 
     pub fn is_stamp(self) -> bool
-        ensures { result ≡ isStamp self }
+        ensures { result ≡ is_stamp self }
     {
         is_date(self.date) && self.second <= Stamp::LAST_SECOND
     }
@@ -81,7 +81,7 @@ impl Stamp {
 
     // Whether `next` is not before this stamp.
     pub fn reaches(self, next: Stamp) -> bool
-        ensures { result ≡ notBefore self next }
+        ensures { result ≡ not_before self next }
     {
         if self.date < next.date {
             return true;
@@ -94,7 +94,7 @@ impl Stamp {
 fn days_before(y: u32, m: u32) -> u32
     requires le_m { 1 ≤ m }
     requires m_bound { m ≤ 12 }
-    ensures { result ≡ daysOfMonths y (m - 1) }
+    ensures { result ≡ days_of_months y (m - 1) }
 {
     let mut n = 0;
     for k in 1..m {
@@ -106,27 +106,27 @@ fn days_before(y: u32, m: u32) -> u32
 // The days of the k years from 2000 on.
 fn years_before(k: u32) -> u32
     requires { k ≤ 99 }
-    ensures { result ≡ daysOfYears k }
+    ensures { result ≡ days_of_years k }
 {
     365 * k + (k + 3) / 4
 }
 
 pub fn day_number(d: u32) -> u32
-    requires { isDate d ≡ true }
-    ensures { result ≡ dayNumber d }
+    requires { is_date d ≡ true }
+    ensures { result ≡ day_number d }
 {
     let y = d / 10_000;
     years_before(y - 2000) + (days_before(y, d / 100 % 100) + (d % 100 - 1))
 }
 
 pub fn month_start(d: u32) -> u32
-    ensures { result ≡ monthStart d }
+    ensures { result ≡ month_start d }
 {
     d / 100 * 100 + 1
 }
 
 fn quarter_month(m: u32) -> u32
-    ensures { result ≡ quarterMonth m }
+    ensures { result ≡ quarter_month m }
 {
     match m {
         0..=3 => 1,
@@ -137,20 +137,20 @@ fn quarter_month(m: u32) -> u32
 }
 
 pub fn quarter_start(d: u32) -> u32
-    ensures { result ≡ quarterStart d }
+    ensures { result ≡ quarter_start d }
 {
     d / 10_000 * 10_000 + (quarter_month(d / 100 % 100) * 100 + 1)
 }
 
 pub fn year_start(d: u32) -> u32
-    ensures { result ≡ yearStart d }
+    ensures { result ≡ year_start d }
 {
     d / 10_000 * 10_000 + 101
 }
 
 // The first date of the calendar cycle of a cycle word, 0 for a word that has none.
 pub fn cycle_start(word: u8, d: u32) -> u32
-    ensures { result ≡ cycleStart word d }
+    ensures { result ≡ cycle_start word d }
 {
     match word {
         1 => month_start(d),
@@ -162,8 +162,8 @@ pub fn cycle_start(word: u8, d: u32) -> u32
 
 // Which run of n days from `first` a date lies in: 0 before it, then 1, 2, ..
 pub fn run_of(first: u32, n: u32, d: u32) -> u32
-    requires first_value { isDate first ≡ true }
-    requires d_value { isDate d ≡ true }
+    requires first_value { is_date first ≡ true }
+    requires d_value { is_date d ≡ true }
     requires n_nonzero { 0 < n }
     ensures { result ≡ run_of first n d }
 {

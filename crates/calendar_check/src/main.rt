@@ -1,6 +1,6 @@
 // Holds the calendar against a count of its own that steps from day to day, at every number from 19990000 to 21009999.
 ghost use Rattle.std.specs.Prelude.{◌≡◌, true, ◌+◌, ◌≤◌, ◌<◌};
-ghost use Rattle.calendar.specs.Date.{isDate};
+ghost use Rattle.calendar.specs.Date.{is_date};
 ghost use Rattle.calendar_check.specs.Tally.{Counted};
 
 use libc::STDOUT_FILENO;
@@ -134,7 +134,7 @@ impl Day {
 
     // How many of the calendar's answers for the date n differ from this day's.
     fn wrong_answers(self, n: u32) -> u32
-        requires { isDate n ≡ true }
+        requires { is_date n ≡ true }
         ensures { result ≤ 4 }
     {
         differs(calendar::day_number(n), self.number)

@@ -1,10 +1,10 @@
 // The work of one line of a journal: what it says, carried out, and its answer put into a lent
 // buffer.
 ghost use Rattle.std.specs.Prelude.{◌≡◌, ◌*◌, ◌≤◌, length, take};
-ghost use Rattle.text.specs.Decimal.{startingWith};
-ghost use Rattle.script.specs.Orders.{order_of, recordOf};
+ghost use Rattle.text.specs.Decimal.{starting_with};
+ghost use Rattle.script.specs.Orders.{order_of, record_of};
 ghost use Rattle.state.specs.State.{state_of};
-ghost use Rattle.clerk.specs.Clerk.{idle, playedBy, QuerySaid, Said, Answered, deskAfter, Answers, size_of};
+ghost use Rattle.clerk.specs.Clerk.{idle, played_by, QuerySaid, Said, Answered, desk_after, Answers, size_of};
 
 use account::Codes;
 use answer::Answer;
@@ -46,7 +46,7 @@ fn idle(desk: Desk) -> Played
 
 // A call on the desk; what is no call leaves it as it is.
 fn called(desk: Desk, order: Order, room: &[u8]) -> Played
-    ensures { result ≡ playedBy desk order (take (size_of order) room.now) }
+    ensures { result ≡ played_by desk order (take (size_of order) room.now) }
 {
     match order {
         Order::Nothing => idle(desk),
@@ -96,9 +96,9 @@ fn answered(
 pub fn work(desk: Desk, number: u64, line: &[u8], room: &mut [u8], out: &mut [u8]) -> Worked
     requires line_len_bound { length line.now ≤ 2 * length room.old }
     requires in_bounds { 320 ≤ length out.old }
-    ensures desk_value { result.desk ≡ deskAfter desk (order_of line.now) (recordOf line.now) }
-    ensures room_after { room.new ≡ startingWith (recordOf line.now) room.old }
-    ensures answered { Answered (Answers desk number (order_of line.now) (recordOf line.now)) out.old result.length out.new }
+    ensures desk_value { result.desk ≡ desk_after desk (order_of line.now) (record_of line.now) }
+    ensures room_after { room.new ≡ starting_with (record_of line.now) room.old }
+    ensures answered { Answered (Answers desk number (order_of line.now) (record_of line.now)) out.old result.length out.new }
 {
     let order = script::parse(line, room);
     let p = called(desk, order, room);

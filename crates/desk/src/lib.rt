@@ -2,9 +2,9 @@
 // each call runs on the meter, and the ledger is told the arguments of an accepted one.
 ghost use Rattle.std.specs.Prelude.{◌≡◌};
 ghost use Rattle.meter.specs.Call.{call_of};
-ghost use Rattle.book.specs.Kept.{enteredBook};
-ghost use Rattle.desk.specs.Desk.{newDesk, ranBy, played};
-ghost use Rattle.meter.specs.Machine.{leftBy};
+ghost use Rattle.book.specs.Kept.{entered_book};
+ghost use Rattle.desk.specs.Desk.{new_desk, ran_by, played};
+ghost use Rattle.meter.specs.Machine.{left_by};
 
 use book::Book;
 use meter::{Call, Done, Meter, Outcome};
@@ -26,7 +26,7 @@ pub struct Played {
 impl Desk {
     // A fresh meter and a blank ledger.
     pub fn new() -> Desk
-        ensures { result ≡ newDesk }
+        ensures { result ≡ new_desk }
     {
         Desk {
             meter: Meter::fresh(),
@@ -36,7 +36,7 @@ impl Desk {
 
     // What a call left, with the ledger given.
     fn ran(o: Outcome, held: Words, book: Book) -> Played
-        ensures { result ≡ ranBy (leftBy o held) book }
+        ensures { result ≡ ran_by (left_by o held) book }
     {
         let machine = o.machine;
         let done = o.done;
@@ -51,7 +51,7 @@ impl Desk {
 
     // The ledger told of an accepted call; it looks at pulses, recharges and loads.
     fn entered(book: Book, c: Call, bytes: &[u8]) -> Book
-        ensures { result ≡ enteredBook book (call_of c bytes.now) }
+        ensures { result ≡ entered_book book (call_of c bytes.now) }
     {
         match c {
             Call::Pulses(p) => book.pulsed(p.stamp.date, p.count),

@@ -9,5 +9,5 @@ abbrev pub byte_of : ℕ → ℕ
 byte_of x = x / 10 * 16 + x % 10
 
 -- neither digit is above 9
-unfoldable pub twoDigits : ℕ → Bool
-twoDigits b = ltb (b / 16) 10 && ltb (b % 16) 10
+unfoldable pub two_digits : ℕ → Bool
+two_digits b = ltb (b / 16) 10 && ltb (b % 16) 10

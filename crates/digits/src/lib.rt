@@ -1,6 +1,6 @@
 // Document 01, "Plan record (Table C.1)": "two decimal digits a byte, high digit first".
 ghost use Rattle.std.specs.Prelude.{◌≡◌, ◌<◌};
-ghost use Rattle.digits.specs.Digits.{pair_of, byte_of, twoDigits};
+ghost use Rattle.digits.specs.Digits.{pair_of, byte_of, two_digits};
 
 // The number of a byte's two digits.
 pub fn pair(b: u8) -> u32
@@ -11,7 +11,7 @@ pub fn pair(b: u8) -> u32
 
 // Whether neither digit is above 9.
 pub fn two_digits(b: u8) -> bool
-    ensures { result ≡ twoDigits b }
+    ensures { result ≡ two_digits b }
 {
     (b / 16 < 10) & (b % 16 < 10)
 }

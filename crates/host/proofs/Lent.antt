@@ -41,9 +41,9 @@ use denote.Struct.Declared.{field as as-field}
 use denote.Struct.Laws as LL
 use denote.Triple.Statement.{Contract, Triple}
 use denote.Triple.End.{Kepts, Outs}
-use Rattle.host.proofs.Kind.{Kind, Of, row_of, mirOf, mach, made, typed, Param, struct, said}
+use Rattle.host.proofs.Kind.{Kind, Of, row_of, mir_of, mach, made, typed, Param, struct, said}
 use Rattle.host.proofs.Called.{Promise, Walk, Asks, asked, called, exits, met, at_local}
-use Rattle.host.proofs.Parted.{Parted, Words, kind, at_words, behind, lent-words, wordsRef, taken, takes, shuts, StateAt, WordsAt, Back}
+use Rattle.host.proofs.Parted.{Parted, Words, kind, at_words, behind, lent-words, words_ref, taken, takes, shuts, StateAt, WordsAt, Back}
 
 -- an outcome's two fields
 abbrev pub both : (T D : Kind) {X : Type 0} → (X → Of T) → (X → Of D) → X → Denots (rows (as-field T.type ∷ as-field D.type ∷ []))
@@ -91,7 +91,7 @@ module _ (S : Setting) where
   abbrev body : Name → ℕ → ℕ → ℕ → List Operand → Body
   body g i j k xs =
       taken S.G i j (seq (call g (copy (place i []) ∷ copy (place j []) ∷ xs) (place k []))
-      (seq (assign (place 1 (deref (mirOf (kind S.G)) ∷ field 0 ∷ [])) (rv_opd (copy (place k (field 0 ∷ [])))))
+      (seq (assign (place 1 (deref (mir_of (kind S.G)) ∷ field 0 ∷ [])) (rv_opd (copy (place k (field 0 ∷ [])))))
       (seq (call S.teller (copy (place k (field 1 ∷ [])) ∷ []) (place 0 [])) return)))
 
   -- the contract of what makes the reply
@@ -131,7 +131,7 @@ module _ (S : Setting) where
 
       module _ (ys : (ν : Lft) → Denots (types_at ss (ν, κs))) (vss : (ν : Lft) → Valss (types_at ss (ν, κs))) (own : Fml) (passes : (ν : Lft) → ent 𝓤 (sem 𝓛 own) (sem 𝓛 (owns (types_at ss (ν, κs)) (ys ν) (vss ν)))) where
         abbrev args : (ν : ℕ) → GName → Denots (types_at ms (ν ∷ [], κs))
-        args ν δ = (S.G.part m, (wordsRef S.G b o δ (S.G.words m), ys (ν ∷ [])))
+        args ν δ = (S.G.part m, (words_ref S.G b o δ (S.G.words m), ys (ν ∷ [])))
 
         abbrev vals : (ν : ℕ) → Valss (types_at ms (ν ∷ [], κs))
         vals ν = (mach T (S.G.part m) ∷ [], (vptr b (at_words S.G o) ∷ [], vss (ν ∷ [])))
@@ -146,28 +146,28 @@ module _ (S : Setting) where
         Tok = raw (toks 𝓛 n κs qs)
 
         module _ (E : Env 𝓤 H) (l₀ l₁ i lᵢ j lⱼ k lₖ : ℕ) (at-0 : spot_of 𝓤 H E 0 ≡ (S.R.τ, l₀, 0)) (at_1 : spot_of 𝓤 H E 1 ≡ (behind S.G mut, l₁, 0))
-            (at_i : spot_of 𝓤 H E i ≡ (mirOf T, lᵢ, 0)) (at_j : spot_of 𝓤 H E j ≡ (lent-words S.G mut, lⱼ, 0)) (at-k : spot_of 𝓤 H E k ≡ (mirOf outcome, lₖ, 0)) where
+            (at_i : spot_of 𝓤 H E i ≡ (mir_of T, lᵢ, 0)) (at_j : spot_of 𝓤 H E j ≡ (lent-words S.G mut, lⱼ, 0)) (at-k : spot_of 𝓤 H E k ≡ (mir_of outcome, lₖ, 0)) where
           -- the locals of the state, of the words' address and of the reference, in front of the rest
           abbrev Locals : List (Item 𝓤) → List (Item 𝓤)
-          Locals Γ = ‵ (fat full_share (mirOf T) lᵢ 0 (mach T (S.G.part m))) ∷ ‵ (fat full_share (lent-words S.G mut) lⱼ 0 (vptr b (at_words S.G o))) ∷ ‵ (fat full_share (behind S.G mut) l₁ 0 (vptr b o)) ∷ Γ
+          Locals Γ = ‵ (fat full_share (mir_of T) lᵢ 0 (mach T (S.G.part m))) ∷ ‵ (fat full_share (lent-words S.G mut) lⱼ 0 (vptr b (at_words S.G o))) ∷ ‵ (fat full_share (behind S.G mut) l₁ 0 (vptr b o)) ∷ Γ
 
           -- the context as the method is called, and at the end
           abbrev Open : ℕ → GName → List (Item 𝓤) → List (Item 𝓤)
-          Open ν δ Γ = To ν δ ∷ ‵ (froom (mirOf outcome) lₖ 0) ∷ ‵ (flent (ν ∷ []) (Behind (mem (Words S.G)) b (at_words S.G o) δ)) ∷ StateAt S.G 𝓛 full_share b o (S.G.part m) ∷ Back S.G 𝓛 full_share b o
+          Open ν δ Γ = To ν δ ∷ ‵ (froom (mir_of outcome) lₖ 0) ∷ ‵ (flent (ν ∷ []) (Behind (mem (Words S.G)) b (at_words S.G o) δ)) ∷ StateAt S.G 𝓛 full_share b o (S.G.part m) ∷ Back S.G 𝓛 full_share b o
               ∷ Locals (‵ (fobor κ q (Behind (mem (row_of (kind S.G))) b o γ)) ∷ ‵ (fobs γ ((row_of (kind S.G)).coded.code m)) ∷ ‵ (fauth γ ((row_of (kind S.G)).coded.code m)) ∷ ‵ (froom S.R.τ l₀ 0) ∷ Γ)
 
           abbrev Shut : S.X → List ℕ → S.R.R.Denot → List (Item 𝓤) → List (Item 𝓤)
-          Shut r w t Γ = ‵ (fat full_share S.R.τ l₀ 0 (S.R.val t)) ∷ ‵ (fres γ ((row_of (kind S.G)).coded.code (S.G.make (S.state r) w))) ∷ ‵ (flft κ q) ∷ Tok ∷ ‵ (fat full_share (mirOf outcome) lₖ 0 (mach outcome r)) ∷ Locals Γ
+          Shut r w t Γ = ‵ (fat full_share S.R.τ l₀ 0 (S.R.val t)) ∷ ‵ (fres γ ((row_of (kind S.G)).coded.code (S.G.make (S.state r) w))) ∷ ‵ (flft κ q) ∷ Tok ∷ ‵ (fat full_share (mir_of outcome) lₖ 0 (mach outcome r)) ∷ Locals Γ
 
           through : {xs : List Operand} {K : Post 𝓤 H} {Γ : List (Item 𝓤)} → ((ν : ℕ) (δ : GName) → Opds (Go {0}) 𝓛 (Open ν δ Γ) E xs (flat (types_at ss (ν ∷ [], κs)) (vss (ν ∷ []))))
               → ((ν : ℕ) (r : S.X) (w : List ℕ) (t : S.R.R.Denot) → (S.state r ≡ (step (ν ∷ [], κs) (ys (ν ∷ [])) (S.G.part m) (S.G.words m)).0) × (w ≡ (step (ν ∷ [], κs) (ys (ν ∷ [])) (S.G.part m) (S.G.words m)).1) × (S.tells r ≡ (step (ν ∷ [], κs) (ys (ν ∷ [])) (S.G.part m) (S.G.words m)).2)
               → t ≡ S.reply (S.tells r) → Is S.R.R t (S.R.val t ∷ []) → Sq 𝓛 (Shut r w t Γ) (runs C Λ E return K))
-              → Sq 𝓛 (‵ (fobs γ ((row_of (kind S.G)).coded.code m)) ∷ ‵ (fbor κ (Behind (mem (row_of (kind S.G))) b o γ)) ∷ ‵ (flft κ q) ∷ Tok ∷ ‵ own ∷ ‵ (froom (mirOf T) lᵢ 0) ∷ ‵ (froom (lent-words S.G mut) lⱼ 0) ∷ ‵ (fat full_share (behind S.G mut) l₁ 0 (vptr b o))
-              ∷ ‵ (froom (mirOf outcome) lₖ 0) ∷ ‵ (froom S.R.τ l₀ 0) ∷ Γ) (runs C Λ E (body g i j k xs) K)
+              → Sq 𝓛 (‵ (fobs γ ((row_of (kind S.G)).coded.code m)) ∷ ‵ (fbor κ (Behind (mem (row_of (kind S.G))) b o γ)) ∷ ‵ (flft κ q) ∷ Tok ∷ ‵ own ∷ ‵ (froom (mir_of T) lᵢ 0) ∷ ‵ (froom (lent-words S.G mut) lⱼ 0) ∷ ‵ (fat full_share (behind S.G mut) l₁ 0 (vptr b o))
+              ∷ ‵ (froom (mir_of outcome) lₖ 0) ∷ ‵ (froom S.R.τ l₀ 0) ∷ Γ) (runs C Λ E (body g i j k xs) K)
           through os then =
               open_ref ! tt (mem (row_of (kind S.G))) $ move ! (0 ∷ 6 ∷ 7 ∷ 8 ∷ []) $ takes S.G 𝓛 full_share b o C Λ m mut E i lᵢ j lⱼ l₁ at_i at_j at_1 (λ was.
               lft_new ! tt (λ ν. move ! (1 ∷ []) $
-              use1 𝓛 (later (some (λ (δ : GName). ‵ ((MutRef (named 0) (ν ∷ []) (Words S.G)).own_val (wordsRef S.G b o δ (S.G.words m)) (vptr b (at_words S.G o) ∷ [])) ⊛ ‵ (flent (ν ∷ []) (Behind (mem (Words S.G)) b (at_words S.G o) δ)))))
+              use1 𝓛 (later (some (λ (δ : GName). ‵ ((MutRef (named 0) (ν ∷ []) (Words S.G)).own_val (words_ref S.G b o δ (S.G.words m)) (vptr b (at_words S.G o) ∷ [])) ⊛ ‵ (flent (ν ∷ []) (Behind (mem (Words S.G)) b (at_words S.G o) δ)))))
               (lends_ref 𝓛 (Words S.G) (named 0) (ν ∷ []) (S.G.words m) b (at_words S.G o)) $ await ! tt $ pick ! (λ δ. split ! $
               -- [the words' reference; the lender's part; its token; the state; the way back; _i; _j; _1; the open borrow; obs; auth; the tokens; what the arguments own; room for _k; room for _0; …]
               move ! (12 ∷ []) $ use1 𝓛 (‵ (owns (types_at ss (ν ∷ [], κs)) (ys (ν ∷ [])) (vss (ν ∷ [])))) (passes (ν ∷ [])) $ move ! (1 ∷ 0 ∷ []) $ fjoin ! $
@@ -206,7 +206,7 @@ module _ (S : Setting) where
       lifetimes = 1;
       outlives = [];
       params = 2;
-      locals = local S.R.τ value_local ∷ local (behind S.G mut) value_local ∷ local P.τ value_local ∷ local (mirOf outcome) value_local ∷ local (mirOf T) value_local ∷ local (lent-words S.G mut) value_local ∷ [];
+      locals = local S.R.τ value_local ∷ local (behind S.G mut) value_local ∷ local P.τ value_local ∷ local (mir_of outcome) value_local ∷ local (mir_of T) value_local ∷ local (lent-words S.G mut) value_local ∷ [];
       body = body g 4 5 3 (copy (place 2 []) ∷ []);
     }
 
@@ -257,7 +257,7 @@ module _ (S : Setting) where
       lifetimes = 2;
       outlives = [];
       params = 3;
-      locals = local S.R.τ value_local ∷ local (behind S.G mut) value_local ∷ local P.τ value_local ∷ local slice value_local ∷ local (mirOf outcome) value_local ∷ local (mirOf T) value_local ∷ local (lent-words S.G mut) value_local ∷ [];
+      locals = local S.R.τ value_local ∷ local (behind S.G mut) value_local ∷ local P.τ value_local ∷ local slice value_local ∷ local (mir_of outcome) value_local ∷ local (mir_of T) value_local ∷ local (lent-words S.G mut) value_local ∷ [];
       body = body g 5 6 4 (copy (place 2 []) ∷ copy (place 3 []) ∷ []);
     }
 

@@ -16,7 +16,7 @@ use denote.Triple.Statement.{Contract, Triple}
 use denote.Triple.Table.{entered, cited}
 use Rattle.state.specs.State.{State}
 use Rattle.meter.specs.Call.{Call}
-use Rattle.meter.specs.Machine.{meterOf, stateIn, outcome}
+use Rattle.meter.specs.Machine.{meter_of, state_in, outcome}
 use Rattle.meter.specs.declared.Machine.{Machine}
 use Rattle.meter.specs.declared.Outcome.{Outcome}
 use Rattle.meter.specs.declared.Meter.{Meter}
@@ -24,7 +24,7 @@ use Rattle.meter.proofs.Machine.TheLaws as T
 use Rattle.meter.specs.contracts.Meter as M
 use Rattle.meter.proofs.Done.TheLaws as D
 use Rattle.meter.specs.contracts.Outcome as O
-use Rattle.host.specs.Replies.{replyOf}
+use Rattle.host.specs.Replies.{reply_of}
 use Rattle.host.proofs.reply_of.Symbol as teller
 use Rattle.host.proofs.reply_of.Met as teller-thm
 use Rattle.host.proofs.Kind.{Param}
@@ -59,12 +59,12 @@ metered = record {
   state = λ r. r.machine;
   tells = λ r. r.done;
   one = (O.the_type).to_one;
-  reply = replyOf;
+  reply = reply_of;
   teller = teller.name;
 }
 
 abbrev left_by : Machine → List ℕ → Call → Left metered
-left_by s w c = let o = outcome (meterOf s w) c in (o.meter.machine, o.meter.held, o.done)
+left_by s w c = let o = outcome (meter_of s w) c in (o.meter.machine, o.meter.held, o.done)
 
 -- the callee g, whose routine is r, and the function f, in whose code γ says what a name means
 module _ (g : Name) (r : Routine) (f : Name) (γ : Env) (is : γ g ≡ r) {M : Type 1} {𝓤 : Ura M} (𝓛 : Logic 𝓤) (𝓜 : Model 𝓤 𝓛.H) (𝓡 : Running 𝓤 𝓛.H 𝓜) where
@@ -102,7 +102,7 @@ module _ (g : Name) (r : Routine) (f : Name) (γ : Env) (is : γ g ≡ r) {M : T
 
   module _ (R : Param) (φ : State → R.R.Denot → Type 0) where
     abbrev of : Machine → List ℕ → R.R.Denot → Type 0
-    of s w t = φ (stateIn (meterOf s w)) t
+    of s w t = φ (state_in (meter_of s w)) t
 
     pub of-meter : Runs (seen-thin parted R of g) (Asked-of parted R of 𝓛) (Seen-of parted R of 𝓛)
     unfolding tables_of
@@ -110,7 +110,7 @@ module _ (g : Name) (r : Routine) (f : Name) (γ : Env) (is : γ g ≡ r) {M : T
 
   module _ (R : Param) (P : Param) (φ : State → P.R.Denot → R.R.Denot → Type 0) where
     abbrev of-by : Machine → List ℕ → P.R.Denot → R.R.Denot → Type 0
-    of-by s w p t = φ (stateIn (meterOf s w)) p t
+    of-by s w p t = φ (state_in (meter_of s w)) p t
 
     pub of-meter-by : Runs (thin-by parted R P of-by g) (Asked-by parted R P of-by 𝓛) (Seen-by parted R P of-by 𝓛)
     unfolding tables_of

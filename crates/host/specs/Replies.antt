@@ -1,9 +1,9 @@
 -- How the flat structs of the C library hold document 01's answers: `accepted`, else the refusal's number; what is not answered is 0.
 use Rattle.std.specs.Prelude.{◌≡◌, true, false, ℕ, pos}
 use Rattle.answer.specs.declared.Answer.{Answer}
-use Rattle.answer.specs.Answer.{isAccepted, number_of}
+use Rattle.answer.specs.Answer.{is_accepted, number_of}
 use Rattle.records.specs.declared.Record.{Record}
-use Rattle.records.specs.Records.{noRecord}
+use Rattle.records.specs.Records.{no_record}
 use Rattle.records.specs.declared.Fetched.{Fetched}
 use Rattle.records.specs.declared.Fetched.TheVariants.{Held, Refused as NotHeld}
 use Rattle.records.specs.declared.Heavy.{Heavy}
@@ -29,49 +29,49 @@ use Rattle.host.specs.declared.SumReply.{SumReply}
 use Rattle.host.specs.declared.PlanReply.{PlanReply}
 use Rattle.host.specs.declared.PartReply.{PartReply}
 
-unfoldable pub replyOf : Done → Reply
-replyOf d = record { accepted = isAccepted d.answer; refusal = number_of d.answer; codes = d.codes }
+unfoldable pub reply_of : Done → Reply
+reply_of d = record { accepted = is_accepted d.answer; refusal = number_of d.answer; codes = d.codes }
 
-unfoldable pub verdictOf : Answer → Verdict
-verdictOf a = record { accepted = isAccepted a; refusal = number_of a }
+unfoldable pub verdict_of : Answer → Verdict
+verdict_of a = record { accepted = is_accepted a; refusal = number_of a }
 
-unfoldable pub stepReplyOf : Stepped → StepReply
-stepReplyOf (At s) = record { accepted = true; refusal = 0; step = s }
-stepReplyOf (NoStep n) = record { accepted = false; refusal = n; step = record { number = 0; price = record { 0 = 0 } } }
+unfoldable pub step_reply_of : Stepped → StepReply
+step_reply_of (At s) = record { accepted = true; refusal = 0; step = s }
+step_reply_of (NoStep n) = record { accepted = false; refusal = n; step = record { number = 0; price = record { 0 = 0 } } }
 
-unfoldable pub displayReplyOf : Displayed → DisplayReply
-displayReplyOf (Shows s) = record { accepted = true; refusal = 0; shown = s }
-displayReplyOf (Dark n) = record { accepted = false; refusal = n; shown = record { 0 = pos 0 } }
+unfoldable pub display_reply_of : Displayed → DisplayReply
+display_reply_of (Shows s) = record { accepted = true; refusal = 0; shown = s }
+display_reply_of (Dark n) = record { accepted = false; refusal = n; shown = record { 0 = pos 0 } }
 
 -- a record with its place, and none
-abbrev pub recordReply : ℕ → Record → RecordReply
-recordReply k r = record { accepted = true; refusal = 0; place = k; held = r }
+abbrev pub record_reply : ℕ → Record → RecordReply
+record_reply k r = record { accepted = true; refusal = 0; place = k; held = r }
 
-abbrev pub noRecordReply : ℕ → RecordReply
-noRecordReply n = record { accepted = false; refusal = n; place = 0; held = noRecord }
+abbrev pub no_record_reply : ℕ → RecordReply
+no_record_reply n = record { accepted = false; refusal = n; place = 0; held = no_record }
 
-unfoldable pub recordReplyOf : ℕ → Fetched → RecordReply
-recordReplyOf k (Held r) = recordReply k r
-recordReplyOf k (NotHeld n) = noRecordReply n
+unfoldable pub record_reply_of : ℕ → Fetched → RecordReply
+record_reply_of k (Held r) = record_reply k r
+record_reply_of k (NotHeld n) = no_record_reply n
 
-unfoldable pub heavyReplyOf : Heavy → RecordReply
-heavyReplyOf (Day k r) = recordReply k r
-heavyReplyOf (NoDay n) = noRecordReply n
+unfoldable pub heavy_reply_of : Heavy → RecordReply
+heavy_reply_of (Day k r) = record_reply k r
+heavy_reply_of (NoDay n) = no_record_reply n
 
 -- the heavy day alone is loose: the reply is that of some answer that the query may give
 pub record HeavyReplied (m : State) (v : ℕ) (r : RecordReply) : Type 0 where
   pub found : Heavy
   pub right : HeavyAnswer m v found
-  pub told : r ≡ heavyReplyOf found
+  pub told : r ≡ heavy_reply_of found
 
-unfoldable pub sumReplyOf : Summed → SumReply
-sumReplyOf (Volume s) = record { accepted = true; refusal = 0; volume = s }
-sumReplyOf (NoSum n) = record { accepted = false; refusal = n; volume = record { 0 = 0 } }
+unfoldable pub sum_reply_of : Summed → SumReply
+sum_reply_of (Volume s) = record { accepted = true; refusal = 0; volume = s }
+sum_reply_of (NoSum n) = record { accepted = false; refusal = n; volume = record { 0 = 0 } }
 
-unfoldable pub planReplyOf : Reading → PlanReply
-planReplyOf r = record { accepted = isAccepted r.answer; refusal = number_of r.answer; plan = r.plan }
+unfoldable pub plan_reply_of : Reading → PlanReply
+plan_reply_of r = record { accepted = is_accepted r.answer; refusal = number_of r.answer; plan = r.plan }
 
-unfoldable pub partReplyOf : Choice → PartReply
-partReplyOf First = record { accepted = true; refusal = 0; which = 1 }
-partReplyOf Second = record { accepted = true; refusal = 0; which = 2 }
-partReplyOf (Neither n) = record { accepted = false; refusal = n; which = 0 }
+unfoldable pub part_reply_of : Choice → PartReply
+part_reply_of First = record { accepted = true; refusal = 0; which = 1 }
+part_reply_of Second = record { accepted = true; refusal = 0; which = 2 }
+part_reply_of (Neither n) = record { accepted = false; refusal = n; which = 0 }

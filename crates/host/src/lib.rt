@@ -6,7 +6,7 @@ pub mod plans; // plans.rt: plan records
 pub mod queries; // queries.rt: the questions over a lent meter, and the sum
 
 ghost use Rattle.std.specs.Prelude.{◌≡◌};
-ghost use Rattle.host.specs.Replies.{verdictOf, replyOf};
+ghost use Rattle.host.specs.Replies.{verdict_of, reply_of};
 
 use account::Codes;
 use answer::Answer;
@@ -85,7 +85,7 @@ pub struct PartReply {
 
 // Any answer, as a flag and a number.
 fn verdict_of(a: Answer) -> Verdict
-    ensures { result ≡ verdictOf a }
+    ensures { result ≡ verdict_of a }
 {
     match a {
         Answer::Accepted => Verdict {
@@ -100,7 +100,7 @@ fn verdict_of(a: Answer) -> Verdict
 }
 
 fn reply_of(d: Done) -> Reply
-    ensures { result ≡ replyOf d }
+    ensures { result ≡ reply_of d }
 {
     let answer = d.answer;
     let v = verdict_of(answer);

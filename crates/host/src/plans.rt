@@ -1,8 +1,8 @@
 // Plan records: the reader, the writer, and which of two is in force on a date.
 ghost use Rattle.std.specs.Prelude.{◌≡◌};
-ghost use Rattle.record.specs.Record.{read_of, writeAnswer, written};
+ghost use Rattle.record.specs.Record.{read_of, write_answer, written};
 ghost use Rattle.record.specs.Choice.{choice_of};
-ghost use Rattle.host.specs.Replies.{verdictOf, planReplyOf, partReplyOf};
+ghost use Rattle.host.specs.Replies.{verdict_of, plan_reply_of, part_reply_of};
 
 use crate::{PartReply, PlanReply, Verdict};
 use plan::Plan;
@@ -10,7 +10,7 @@ use record::Choice;
 
 #[unsafe(no_mangle)]
 pub extern "C" fn harpdapple_plan_read(bytes: &[u8]) -> PlanReply
-    ensures { result ≡ planReplyOf (read_of bytes.now) }
+    ensures { result ≡ plan_reply_of (read_of bytes.now) }
 {
     let a = record::read(bytes);
     let answer = a.answer;
@@ -25,7 +25,7 @@ pub extern "C" fn harpdapple_plan_read(bytes: &[u8]) -> PlanReply
 
 #[unsafe(no_mangle)]
 pub extern "C" fn harpdapple_plan_write(plan: Plan, out: &mut [u8]) -> Verdict
-    ensures { (result ≡ verdictOf (writeAnswer plan out.old)) × (out.new ≡ written plan out.old) }
+    ensures { (result ≡ verdict_of (write_answer plan out.old)) × (out.new ≡ written plan out.old) }
 {
     let a = record::write(plan, out);
     crate::verdict_of(a)
@@ -37,7 +37,7 @@ pub extern "C" fn harpdapple_record_in_force<'a>(
     second: &'a [u8],
     date: u32,
 ) -> PartReply
-    ensures { result ≡ partReplyOf (choice_of first.now second.now date) }
+    ensures { result ≡ part_reply_of (choice_of first.now second.now date) }
 {
     let c = record::choose(first, second, date);
     match c {

@@ -1,8 +1,8 @@
 // The queries: each by value first, then over a lent meter; and the sum over a lent list.
 ghost use Rattle.std.specs.Prelude.{◌≡◌};
-ghost use Rattle.meter.specs.Machine.{meterOf, stateIn};
-ghost use Rattle.query.specs.Queries.{stepAnswer, displayAnswer, dayAnswer, monthAnswer, sumAnswer};
-ghost use Rattle.host.specs.Replies.{stepReplyOf, displayReplyOf, recordReplyOf, heavyReplyOf, HeavyReplied, sumReplyOf};
+ghost use Rattle.meter.specs.Machine.{meter_of, state_in};
+ghost use Rattle.query.specs.Queries.{step_answer, display_answer, day_answer, month_answer, sum_answer};
+ghost use Rattle.host.specs.Replies.{step_reply_of, display_reply_of, record_reply_of, heavy_reply_of, HeavyReplied, sum_reply_of};
 
 use crate::{DisplayReply, RecordReply, StepReply, SumReply};
 use meter::{Machine, Meter};
@@ -14,7 +14,7 @@ use slots::Stepped;
 use units::{Hundredths, Shown, TenThousandths, VolumeSum};
 
 fn step_reply(m: Machine, words: &Words) -> StepReply
-    ensures { result ≡ stepReplyOf (stepAnswer (stateIn (meterOf m words.now))) }
+    ensures { result ≡ step_reply_of (step_answer (state_in (meter_of m words.now))) }
 {
     let a = query::step(m.registers, words);
     match a {
@@ -35,7 +35,7 @@ fn step_reply(m: Machine, words: &Words) -> StepReply
 }
 
 fn display_reply(m: Machine, words: &Words) -> DisplayReply
-    ensures { result ≡ displayReplyOf (displayAnswer (stateIn (meterOf m words.now))) }
+    ensures { result ≡ display_reply_of (display_answer (state_in (meter_of m words.now))) }
 {
     let a = query::display(m.registers, words);
     match a {
@@ -53,7 +53,7 @@ fn display_reply(m: Machine, words: &Words) -> DisplayReply
 }
 
 fn record_reply(place: usize, a: Fetched) -> RecordReply
-    ensures { result ≡ recordReplyOf place a }
+    ensures { result ≡ record_reply_of place a }
 {
     match a {
         Fetched::Held(held) => RecordReply {
@@ -75,21 +75,21 @@ fn record_reply(place: usize, a: Fetched) -> RecordReply
 }
 
 fn day_reply(m: Machine, words: &Words, k: usize) -> RecordReply
-    ensures { result ≡ recordReplyOf k (dayAnswer (stateIn (meterOf m words.now)) k) }
+    ensures { result ≡ record_reply_of k (day_answer (state_in (meter_of m words.now)) k) }
 {
     let a = query::day(m.registers, words, k);
     record_reply(k, a)
 }
 
 fn month_reply(m: Machine, words: &Words, k: usize) -> RecordReply
-    ensures { result ≡ recordReplyOf k (monthAnswer (stateIn (meterOf m words.now)) k) }
+    ensures { result ≡ record_reply_of k (month_answer (state_in (meter_of m words.now)) k) }
 {
     let a = query::month(m.registers, words, k);
     record_reply(k, a)
 }
 
 fn heavy_found(a: Heavy) -> RecordReply
-    ensures { result ≡ heavyReplyOf a }
+    ensures { result ≡ heavy_reply_of a }
 {
     match a {
         Heavy::Day(place, held) => RecordReply {
@@ -111,7 +111,7 @@ fn heavy_found(a: Heavy) -> RecordReply
 }
 
 fn heavy_reply(m: Machine, words: &Words, v: Hundredths) -> RecordReply
-    ensures { HeavyReplied (stateIn (meterOf m words.now)) v.0 result }
+    ensures { HeavyReplied (state_in (meter_of m words.now)) v.0 result }
 {
     let a = query::heavy(m.registers, words, v);
     heavy_found(a)
@@ -119,41 +119,41 @@ fn heavy_reply(m: Machine, words: &Words, v: Hundredths) -> RecordReply
 
 #[unsafe(no_mangle)]
 pub extern "C" fn harpdapple_step(meter: &Meter) -> StepReply
-    ensures { result ≡ stepReplyOf (stepAnswer (stateIn meter.now)) }
+    ensures { result ≡ step_reply_of (step_answer (state_in meter.now)) }
 {
     step_reply((*meter).machine, &(*meter).held)
 }
 
 #[unsafe(no_mangle)]
 pub extern "C" fn harpdapple_display(meter: &Meter) -> DisplayReply
-    ensures { result ≡ displayReplyOf (displayAnswer (stateIn meter.now)) }
+    ensures { result ≡ display_reply_of (display_answer (state_in meter.now)) }
 {
     display_reply((*meter).machine, &(*meter).held)
 }
 
 #[unsafe(no_mangle)]
 pub extern "C" fn harpdapple_day(meter: &Meter, k: usize) -> RecordReply
-    ensures { result ≡ recordReplyOf k (dayAnswer (stateIn meter.now) k) }
+    ensures { result ≡ record_reply_of k (day_answer (state_in meter.now) k) }
 {
     day_reply((*meter).machine, &(*meter).held, k)
 }
 
 #[unsafe(no_mangle)]
 pub extern "C" fn harpdapple_month(meter: &Meter, k: usize) -> RecordReply
-    ensures { result ≡ recordReplyOf k (monthAnswer (stateIn meter.now) k) }
+    ensures { result ≡ record_reply_of k (month_answer (state_in meter.now) k) }
 {
     month_reply((*meter).machine, &(*meter).held, k)
 }
 
 #[unsafe(no_mangle)]
 pub extern "C" fn harpdapple_heavy(meter: &Meter, volume: Hundredths) -> RecordReply
-    ensures { HeavyReplied (stateIn meter.now) volume.0 result }
+    ensures { HeavyReplied (state_in meter.now) volume.0 result }
 {
     heavy_reply((*meter).machine, &(*meter).held, volume)
 }
 
 fn sum_reply(a: Summed) -> SumReply
-    ensures { result ≡ sumReplyOf a }
+    ensures { result ≡ sum_reply_of a }
 {
     match a {
         Summed::Volume(volume) => SumReply {
@@ -172,7 +172,7 @@ fn sum_reply(a: Summed) -> SumReply
 // The sum of volumes over a host's list of day records.
 #[unsafe(no_mangle)]
 pub extern "C" fn harpdapple_sum(days: &[Record]) -> SumReply
-    ensures { result ≡ sumReplyOf (sumAnswer days.now) }
+    ensures { result ≡ sum_reply_of (sum_answer days.now) }
 {
     let mut a = query::sum_start(days.len());
     let mut i = 0;

@@ -9,7 +9,7 @@ use lib.Dec.{eqb}
 use lib.ListN.{length, get_or, take, drop, length-drop, drop_of_length-le}
 use lib.Seq.{drop-cons, drop-length, get_or-append-add, get_or-drop, take_all}
 use borrow.Author.Tests.{eq-eqb, ne_eqb}
-use Rattle.text.specs.Decimal.{startingWith}
+use Rattle.text.specs.Decimal.{starting_with}
 use Rattle.lines.specs.Pieces.{until, past, place_of}
 
 pub place_here : (b : ℕ) (s : List ℕ) (i : ℕ) → i < length s → get_or s i 0 ≡ b → place_of b s i ≡ i
@@ -63,8 +63,8 @@ past-none b s {e} p h =
     rw z (sym (drop_of_length-le s {i = e + 1} (omega arith)) ∙ rw p (past-drop b s))
 
 -- bytes at and behind the end of what was put at the start are the old ones
-pub kept-behind : (a s : List ℕ) (k : ℕ) → length a ≤ length s → length a ≤ k → get_or (startingWith a s) k 0 ≡ get_or s k 0
-unfolding startingWith
+pub kept-behind : (a s : List ℕ) (k : ℕ) → length a ≤ length s → length a ≤ k → get_or (starting_with a s) k 0 ≡ get_or s k 0
+unfolding starting_with
 kept-behind a s k l h =
     let e : k ≡ length a + (k - length a) = omega arith in
     ap (λ (n : ℕ). get_or (a ++ drop (length a) s) n 0) e

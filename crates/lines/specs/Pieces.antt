@@ -1,6 +1,6 @@
 -- A text in pieces: what stands before the first of a given byte, and what stands behind it.
 use Rattle.std.specs.Prelude.{cond, List, [], ◌∷◌, ℕ, ◌+◌, ◌-◌, eqb, length, take, drop}
-use Rattle.text.specs.Decimal.{startingWith}
+use Rattle.text.specs.Decimal.{starting_with}
 
 -- what stands before the first byte b; all where there is none
 unfoldable pub until : ℕ → List ℕ → List ℕ
@@ -18,4 +18,4 @@ place_of b s from = from + length (until b (drop from s))
 
 -- the bytes from `from` up to `to` at the start; what stands behind them stays
 unfoldable pub shifted : List ℕ → ℕ → ℕ → List ℕ
-shifted s from to = startingWith (take (to - from) (drop from s)) s
+shifted s from to = starting_with (take (to - from) (drop from s)) s

@@ -6,20 +6,20 @@ use Rattle.answer.specs.declared.Answer.{Answer}
 use Rattle.answer.specs.declared.Answer.TheVariants.{Accepted, Refused}
 use Rattle.answer.proofs.Tests.{next-first}
 use Rattle.records.specs.Records.{Held}
-use Rattle.records.specs.Words.{rows, heldFrom, held_of, noWords}
+use Rattle.records.specs.Words.{rows, held_from, held_of, no_words}
 use Rattle.slots.specs.World.{World, real}
-use Rattle.state.specs.State.{State, stateWith, registersOf, fresh}
+use Rattle.state.specs.State.{State, state_with, registers_of, fresh}
 use Rattle.state.specs.Turn.{turn}
 use Rattle.state.specs.Pulsed.{pulsed}
-use Rattle.state.specs.Refusals.{stampRefusal}
+use Rattle.state.specs.Refusals.{stamp_refusal}
 use Rattle.state.proofs.Admitted.{stamp-passed}
 use Rattle.state.proofs.WordsTurned.{turn-held, turn-long}
 use Rattle.meter.specs.declared.Meter.{Meter}
 use Rattle.meter.specs.declared.Outcome.{Outcome}
-use Rattle.meter.specs.Call.{Call, pulses, recharge, load, alarms, command, key, tick, stampOf}
-use Rattle.meter.specs.Refusals.{ownRefusal, refusalOf}
+use Rattle.meter.specs.Call.{Call, pulses, recharge, load, alarms, command, key, tick, stamp_of}
+use Rattle.meter.specs.Refusals.{own_refusal, refusal_of}
 use Rattle.meter.specs.Effects.{effect_of}
-use Rattle.meter.specs.Machine.{after, left, meterOf, stateIn, freshMeter, outcome, leftBy, Answers, Follows, FollowsRules}
+use Rattle.meter.specs.Machine.{after, left, meter_of, state_in, fresh_meter, outcome, left_by, Answers, Follows, FollowsRules}
 
 -- no effect touches a held record
 effect-held : (w : World) (m : State) (c : Call) → (effect_of w m c).held ≡ m.held
@@ -32,32 +32,32 @@ effect-held w m (command c) = refl
 effect-held w m (key k) = refl
 effect-held w m (tick t) = refl
 
-same-state : (m : State) (h : Held) → m.held ≡ h → stateWith (registersOf m) h ≡ m
-unfolding stateWith registersOf
+same-state : (m : State) (h : Held) → m.held ≡ h → state_with (registers_of m) h ≡ m
+unfolding state_with registers_of
 same-state m h e = rw (sym e)
 
-same-held : (m : Meter) → (stateIn m).held ≡ held_of m.held
-unfolding stateWith
+same-held : (m : Meter) → (state_in m).held ≡ held_of m.held
+unfolding state_with
 same-held m = refl
 
 pub follows : FollowsRules
-unfolding outcome left after refusalOf
-follows m c long = go (refusalOf real (stateIn m) c) refl
+unfolding outcome left after refusal_of
+follows m c long = go (refusal_of real (state_in m) c) refl
   where
-    go : (a : Answer) → refusalOf real (stateIn m) c ≡ a → Follows m c
+    go : (a : Answer) → refusal_of real (state_in m) c ≡ a → Follows m c
     go Accepted e =
         let r = m.machine.registers in
-        let s = stampOf c in
-        let b = (stamp-passed real (stateIn m) s (next-first (stampRefusal real (stateIn m) s) (ownRefusal real (stateIn m) c) e)).0 in
-        let h = effect-held real (turn real (stateIn m) s) c ∙ turn-held r m.held s long b in
-        record { state = rw e (same-state (after real (stateIn m) c) _ h); long = rw e (turn-long r m.held s long) }
-    go (Refused n) e = record { state = rw e (same-state (stateIn m) _ (same-held m)); long = rw e long }
+        let s = stamp_of c in
+        let b = (stamp-passed real (state_in m) s (next-first (stamp_refusal real (state_in m) s) (own_refusal real (state_in m) c) e)).0 in
+        let h = effect-held real (turn real (state_in m) s) c ∙ turn-held r m.held s long b in
+        record { state = rw e (same-state (after real (state_in m) c) _ h); long = rw e (turn-long r m.held s long) }
+    go (Refused n) e = record { state = rw e (same-state (state_in m) _ (same-held m)); long = rw e long }
 
 -- a fresh meter has a fresh state
-pub fresh_in : stateIn freshMeter ≡ fresh
-unfolding fresh registersOf stateWith heldFrom rows noWords
+pub fresh_in : state_in fresh_meter ≡ fresh
+unfolding fresh registers_of state_with held_from rows no_words
 fresh_in = refl
 
 -- an answer is what the call leaves
-pub answer-left : (m : Meter) (c : Call) (r : Outcome) (words : List ℕ) → Answers m c r words → leftBy r words ≡ outcome m c
-answer-left m c r words a = λ i. record { meter = meterOf (a.0 i) (a.1 i); done = a.2 i }
+pub answer-left : (m : Meter) (c : Call) (r : Outcome) (words : List ℕ) → Answers m c r words → left_by r words ≡ outcome m c
+answer-left m c r words a = λ i. record { meter = meter_of (a.0 i) (a.1 i); done = a.2 i }

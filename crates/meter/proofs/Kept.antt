@@ -6,35 +6,35 @@ use lib.Dec.{leb, eqb}
 use lib.IntN.{pos}
 use lib.Signed.{lt_z}
 use borrow.Author.Tests.{leb-true}
-use Rattle.units.specs.Volume.{highestTotal}
+use Rattle.units.specs.Volume.{highest_total}
 use Rattle.answer.specs.declared.Answer.TheVariants.{Accepted}
 use Rattle.answer.proofs.Tests.{never, and_right, need-first, need-both, next-first, next-rest}
 use Rattle.calendar.specs.declared.Stamp.{Stamp}
-use Rattle.calendar.specs.Stamp.{notBefore}
+use Rattle.calendar.specs.Stamp.{not_before}
 use Rattle.calendar.proofs.Stamps.{not-before-date}
-use Rattle.account.specs.Account.{alarmsGood, isFreshAccount}
-use Rattle.account.specs.Valve.{isFreshValve}
+use Rattle.account.specs.Account.{alarms_good, is_fresh_account}
+use Rattle.account.specs.Valve.{is_fresh_valve}
 use Rattle.account.proofs.Kept.{recharged-good, alarmed-good}
-use Rattle.records.specs.Bounds.{isFreshPeriods, isFreshHeld}
+use Rattle.records.specs.Bounds.{is_fresh_periods, is_fresh_held}
 use Rattle.record.specs.declared.Reading.{Reading}
 use Rattle.record.specs.Record.{read_of}
 use Rattle.slots.specs.World.{World}
 use Rattle.slots.specs.Laws.{Laws}
-use Rattle.slots.specs.Slots.{someForce}
+use Rattle.slots.specs.Slots.{some_force}
 use Rattle.slots.specs.Load.{loaded}
-use Rattle.slots.specs.Bounds.{isFreshSlots}
+use Rattle.slots.specs.Bounds.{is_fresh_slots}
 use Rattle.slots.proofs.Kept.{slots-in, slots-out, Loads, loads, slots-loaded, none-loaded}
-use Rattle.state.specs.State.{State, fresh, withSlots}
-use Rattle.state.specs.Bounds.{stampGood, bounded, isFresh, isFreshVolumes}
+use Rattle.state.specs.State.{State, fresh, with_slots}
+use Rattle.state.specs.Bounds.{stamp_good, bounded, is_fresh, is_fresh_volumes}
 use Rattle.state.specs.Turn.{turn}
-use Rattle.state.specs.Refusals.{stampRefusal, mostPulses, pulseRefusal, keyAllowed}
+use Rattle.state.specs.Refusals.{stamp_refusal, most_pulses, pulse_refusal, key_allowed}
 use Rattle.state.specs.Pulsed.{pulsed}
 use Rattle.state.proofs.Admitted.{stamp-passed}
 use Rattle.state.proofs.Parts.{Parts, bounded-state, state-bounded, idle-in, idle-out}
 use Rattle.state.proofs.Turned.{turn-state, turn-clock, turn-account, turn-volumes, turn-force, turn-load}
 use Rattle.state.proofs.Pulses.{pulsed-state}
-use Rattle.meter.specs.Call.{Call, pulses, recharge, load, alarms, command, key, tick, stampOf}
-use Rattle.meter.specs.Refusals.{ownRefusal, refusalOf}
+use Rattle.meter.specs.Call.{Call, pulses, recharge, load, alarms, command, key, tick, stamp_of}
+use Rattle.meter.specs.Refusals.{own_refusal, refusal_of}
 use Rattle.meter.specs.Effects.{effect_of}
 use Rattle.meter.specs.Machine.{after}
 use Rattle.meter.proofs.Outcomes.{refusal-own}
@@ -52,37 +52,37 @@ module _ (w : World) where
   effect-clock m (tick t) = refl
 
   -- the clock takes the stamp
-  pub after-clock : (m : State) (c : Call) → (after w m c).clock ≡ stampOf c
+  pub after-clock : (m : State) (c : Call) → (after w m c).clock ≡ stamp_of c
   unfolding after
-  after-clock m c = effect-clock (turn w m (stampOf c)) c ∙ turn-clock w m (stampOf c)
+  after-clock m c = effect-clock (turn w m (stamp_of c)) c ∙ turn-clock w m (stamp_of c)
 
   -- what an accepted call has passed
   pub record Passed (m : State) (c : Call) : Type 0 where
     pub bounds : bounded w m ≡ true
-    pub stamp : stampGood w (stampOf c) ≡ true
-    pub onward : notBefore m.clock (stampOf c) ≡ true
-    pub own : ownRefusal w m c ≡ Accepted
+    pub stamp : stamp_good w (stamp_of c) ≡ true
+    pub onward : not_before m.clock (stamp_of c) ≡ true
+    pub own : own_refusal w m c ≡ Accepted
 
-  pub passed : (m : State) (c : Call) → refusalOf w m c ≡ Accepted → Passed m c
-  unfolding refusalOf
+  pub passed : (m : State) (c : Call) → refusal_of w m c ≡ Accepted → Passed m c
+  unfolding refusal_of
   passed m c h =
-      let p = stamp-passed w m (stampOf c) (next-first (stampRefusal w m (stampOf c)) (ownRefusal w m c) h) in
-      record { bounds = p.0; stamp = p.1; onward = p.2; own = next-rest (stampRefusal w m (stampOf c)) (ownRefusal w m c) h }
+      let p = stamp-passed w m (stamp_of c) (next-first (stamp_refusal w m (stamp_of c)) (own_refusal w m c) h) in
+      record { bounds = p.0; stamp = p.1; onward = p.2; own = next-rest (stamp_refusal w m (stamp_of c)) (own_refusal w m c) h }
 
   -- and the other way
-  pub pass : (m : State) (c : Call) → Passed m c → refusalOf w m c ≡ Accepted
-  unfolding stampRefusal
+  pub pass : (m : State) (c : Call) → Passed m c → refusal_of w m c ≡ Accepted
+  unfolding stamp_refusal
   pass m c p = refusal-own w m c (rw (p.bounds, p.stamp, p.onward)) ∙ p.own
 
   -- a fresh meter is within its bounds
   pub fresh-bounded : bounded w fresh ≡ true
-  unfolding bounded isFresh isFreshAccount isFreshSlots isFreshVolumes isFreshValve isFreshPeriods isFreshHeld fresh
+  unfolding bounded is_fresh is_fresh_account is_fresh_slots is_fresh_volumes is_fresh_valve is_fresh_periods is_fresh_held fresh
   fresh-bounded = refl
 
 module _ (w : World) (L : Laws w) where
   -- a load
   load-state : (m : State) (k : ℕ) (r : Reading) → Loads w m.slots m.clock.date k r → w.good r.plan ≡ true → Parts w m →
-      Parts w (withSlots m (loaded m.slots k r.plan))
+      Parts w (with_slots m (loaded m.slots k r.plan))
   unfolding loaded
   load-state m k r l y i =
       let d = m.clock.date in
@@ -93,15 +93,15 @@ module _ (w : World) (L : Laws w) where
         slots = slots-out w (loaded m.slots k r.plan) d t (slots-loaded w L m.slots d t k r l y (slots-in w m.slots d t i.slots));
         periods = i.periods;
         held = i.held;
-        idle = idle-out w (withSlots m (loaded m.slots k r.plan)) (λ f.
+        idle = idle-out w (with_slots m (loaded m.slots k r.plan)) (λ f.
             let z = idle-in w m i (none-loaded w L m.slots d k r l f) in (z.0, z.1));
       }
 
   -- any call that its own tests let pass
-  effect-state : (m : State) (c : Call) → ownRefusal w m c ≡ Accepted → Parts w (turn w m (stampOf c)) → Parts w (effect_of w (turn w m (stampOf c)) c)
-  unfolding ownRefusal effect_of pulseRefusal keyAllowed
+  effect-state : (m : State) (c : Call) → own_refusal w m c ≡ Accepted → Parts w (turn w m (stamp_of c)) → Parts w (effect_of w (turn w m (stamp_of c)) c)
+  unfolding own_refusal effect_of pulse_refusal key_allowed
   effect-state m (pulses p) h i =
-      let t : m.volumes.total.0 + p.count.0 ≤ highestTotal = leb-true _ _ (need-both 14 {a = Accepted} (need-both {b = leb p.count.0 mostPulses} 13 h).1).0 in
+      let t : m.volumes.total.0 + p.count.0 ≤ highest_total = leb-true _ _ (need-both 14 {a = Accepted} (need-both {b = leb p.count.0 most_pulses} 13 h).1).0 in
       pulsed-state w L (turn w m p.stamp) p.count.0 (rw (turn-volumes w m p.stamp) t) i
   effect-state m (recharge r) h i = record {
     volumes = i.volumes;
@@ -117,7 +117,7 @@ module _ (w : World) (L : Laws w) where
       load-state t c.slot (read_of bytes) l (L.read-good bytes l.read) i
   effect-state m (alarms a) h i = record {
     volumes = i.volumes;
-    account = alarmed-good (turn w m a.stamp).account (turn w m a.stamp).volumes.total.0 a.one a.two (need-first (alarmsGood a.one a.two) 23 Accepted h) i.account;
+    account = alarmed-good (turn w m a.stamp).account (turn w m a.stamp).volumes.total.0 a.one a.two (need-first (alarms_good a.one a.two) 23 Accepted h) i.account;
     slots = i.slots;
     periods = i.periods;
     held = i.held;
@@ -135,9 +135,9 @@ module _ (w : World) (L : Laws w) where
   }
   effect-state m (key k) h i =
       let d = k.stamp.date in
-      let e = lt_z (pos 0) m.account.balance.0 && someForce w m.slots d in
+      let e = lt_z (pos 0) m.account.balance.0 && some_force w m.slots d in
       let a : (m.valve.allow && e) ≡ true = need-first (m.valve.allow && e) 22 Accepted h in
-      let f : someForce w m.slots d ≡ true = and_right (lt_z (pos 0) m.account.balance.0) (someForce w m.slots d) (and_right m.valve.allow e a) in
+      let f : some_force w m.slots d ≡ true = and_right (lt_z (pos 0) m.account.balance.0) (some_force w m.slots d) (and_right m.valve.allow e a) in
       record {
         volumes = i.volumes;
         account = i.account;
@@ -145,14 +145,14 @@ module _ (w : World) (L : Laws w) where
         periods = i.periods;
         held = i.held;
         idle = idle-out w (effect_of w (turn w m k.stamp) (key k)) (λ g.
-            absurd (never f (sym (turn-force w m k.stamp d) ∙ ap (λ (s : Stamp). someForce w (turn w m k.stamp).slots s.date) (sym (turn-clock w m k.stamp)) ∙ g)));
+            absurd (never f (sym (turn-force w m k.stamp d) ∙ ap (λ (s : Stamp). some_force w (turn w m k.stamp).slots s.date) (sym (turn-clock w m k.stamp)) ∙ g)));
       }
   effect-state m (tick t) h i = i
 
   -- an accepted call leaves a meter within its bounds
-  pub kept : (m : State) (c : Call) → refusalOf w m c ≡ Accepted → bounded w (after w m c) ≡ true
+  pub kept : (m : State) (c : Call) → refusal_of w m c ≡ Accepted → bounded w (after w m c) ≡ true
   unfolding after
   kept m c h =
       let p = passed w m c h in
-      let j = not-before-date m.clock (stampOf c) p.onward in
-      state-bounded w L (after w m c) (rw (after-clock w m c) p.stamp) (effect-state m c p.own (turn-state w L m (stampOf c) j (bounded-state w m p.bounds)))
+      let j = not-before-date m.clock (stamp_of c) p.onward in
+      state-bounded w L (after w m c) (rw (after-clock w m c) p.stamp) (effect-state m c p.own (turn-state w L m (stamp_of c) j (bounded-state w m p.bounds)))

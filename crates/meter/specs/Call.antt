@@ -20,14 +20,14 @@ pub data Call : Type 0 where
   key : Key → Call
   tick : Tick → Call
 
-abbrev pub stampOf : Call → Stamp
-stampOf (pulses p) = p.stamp
-stampOf (recharge r) = r.stamp
-stampOf (load l bytes) = l.stamp
-stampOf (alarms a) = a.stamp
-stampOf (command c) = c.stamp
-stampOf (key k) = k.stamp
-stampOf (tick t) = t.stamp
+abbrev pub stamp_of : Call → Stamp
+stamp_of (pulses p) = p.stamp
+stamp_of (recharge r) = r.stamp
+stamp_of (load l bytes) = l.stamp
+stamp_of (alarms a) = a.stamp
+stamp_of (command c) = c.stamp
+stamp_of (key k) = k.stamp
+stamp_of (tick t) = t.stamp
 
 -- a call of the code, with the bytes lent beside it
 abbrev pub call_of : Asked → List ℕ → Call

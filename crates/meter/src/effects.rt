@@ -1,12 +1,12 @@
 // The effects of the calls but for pulses on registers whose day is turned, with their codes: the answers of accepted calls.
 ghost use Rattle.std.specs.Prelude.{◌≡◌, true, [], ◌∷◌, ◌≤◌, ◌^◌};
 ghost use Rattle.units.specs.Money.{Small};
-ghost use Rattle.account.specs.Codes.{noteAll};
+ghost use Rattle.account.specs.Codes.{note_all};
 ghost use Rattle.slots.specs.Load.{loaded};
-ghost use Rattle.state.specs.State.{alone, registersOf, withSlots, withValve};
-ghost use Rattle.account.specs.Valve.{valveSet, keyCodes};
+ghost use Rattle.state.specs.State.{alone, registers_of, with_slots, with_valve};
+ghost use Rattle.account.specs.Valve.{valve_set, key_codes};
 ghost use Rattle.meter.specs.Call.{recharge, alarms, command};
-ghost use Rattle.meter.specs.Machine.{acceptedOf, effectBy};
+ghost use Rattle.meter.specs.Machine.{accepted_of, effect_by};
 
 use crate::{Alarms, Command, Machine, Outcome, Recharge};
 use account::Codes;
@@ -16,7 +16,7 @@ use state::Stage;
 pub(crate) fn recharged(t: Stage, p: Recharge) -> Outcome
     requires small { Small t.registers.account.balance.0 }
     requires amount_bound { p.amount.0 ≤ 2 ^ 55 }
-    ensures { result ≡ effectBy t (recharge p) }
+    ensures { result ≡ effect_by t (recharge p) }
 {
     let mut next = t.registers;
     next.account = next.account.recharged(p.amount, p.serial);
@@ -24,7 +24,7 @@ pub(crate) fn recharged(t: Stage, p: Recharge) -> Outcome
 }
 
 pub(crate) fn loaded(t: Stage, slot: u32, plan: Plan) -> Outcome
-    ensures { result ≡ acceptedOf (registersOf (withSlots (alone t.registers) (loaded t.registers.slots slot plan))) (noteAll t.codes (0x27 ∷ [])) }
+    ensures { result ≡ accepted_of (registers_of (with_slots (alone t.registers) (loaded t.registers.slots slot plan))) (note_all t.codes (0x27 ∷ [])) }
 {
     let mut next = t.registers;
     next.slots = next.slots.loaded(slot, plan);
@@ -32,7 +32,7 @@ pub(crate) fn loaded(t: Stage, slot: u32, plan: Plan) -> Outcome
 }
 
 pub(crate) fn alarmed(t: Stage, p: Alarms) -> Outcome
-    ensures { result ≡ effectBy t (alarms p) }
+    ensures { result ≡ effect_by t (alarms p) }
 {
     let mut next = t.registers;
     next.account = next.account.alarmed(p.one, p.two);
@@ -40,7 +40,7 @@ pub(crate) fn alarmed(t: Stage, p: Alarms) -> Outcome
 }
 
 pub(crate) fn commanded(t: Stage, p: Command) -> Outcome
-    ensures { result ≡ effectBy t (command p) }
+    ensures { result ≡ effect_by t (command p) }
 {
     let allow = p.code == 1;
     let mut next = t.registers;
@@ -50,7 +50,7 @@ pub(crate) fn commanded(t: Stage, p: Command) -> Outcome
 }
 
 pub(crate) fn opened(t: Stage) -> Outcome
-    ensures { result ≡ acceptedOf (registersOf (withValve (alone t.registers) (valveSet t.registers.valve true))) (noteAll t.codes (keyCodes t.registers.valve)) }
+    ensures { result ≡ accepted_of (registers_of (with_valve (alone t.registers) (valve_set t.registers.valve true))) (note_all t.codes (key_codes t.registers.valve)) }
 {
     let mut next = t.registers;
     let codes = next.valve.key_codes(t.codes);
@@ -59,7 +59,7 @@ pub(crate) fn opened(t: Stage) -> Outcome
 }
 
 pub(crate) fn none(t: Stage) -> Outcome
-    ensures { result ≡ acceptedOf t.registers t.codes }
+    ensures { result ≡ accepted_of t.registers t.codes }
 {
     Machine::accepted(t.registers, t.codes)
 }

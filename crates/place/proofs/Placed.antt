@@ -8,7 +8,7 @@ use lib.Seq.{drop-drop, take_at, drop_at, take_all, length-take-le, drop-nil}
 use lib.Dec.{leb}
 use borrow.Author.Tests.{leb-true, leb-false}
 use borrow.Rule.Slice.PartMut.{mid_of, put_mid}
-use Rattle.text.specs.Decimal.{startingWith}
+use Rattle.text.specs.Decimal.{starting_with}
 use Rattle.text.specs.Written.{Written}
 use Rattle.text.proofs.Behind.{part-is, part-put}
 use Rattle.text.proofs.Digits.{cases}
@@ -25,7 +25,7 @@ in-part {at} {d = d} {part = part} w = record {
 }
 
 pub nothing : (at : ℕ) (d : List ℕ) → Placed at [] 0 d at d
-unfolding startingWith behind
+unfolding starting_with behind
 nothing at d = record { place = omega arith; few = omega arith; buffer = sym (take-append-drop at d) }
 
 -- the bound may be larger, and the text another that is the same
@@ -38,21 +38,21 @@ module _ (at : ℕ) (a d : List ℕ) (h : at ≤ length d) where
   front = rw (length-append, length-take-le at d h)
 
   before : take (at + length a) (behind at a d) ≡ take at d ++ a
-  unfolding startingWith behind
+  unfolding starting_with behind
   before = rw (← append_assoc) (take_at (take at d ++ a) _ (at + length a) front)
 
   beyond : drop (at + length a) (behind at a d) ≡ drop (length a) (drop at d)
-  unfolding startingWith behind
+  unfolding starting_with behind
   beyond = rw (← append_assoc) (drop_at (take at d ++ a) _ (at + length a) front)
 
 inside : (at : ℕ) (a b d : List ℕ) → at ≤ length d → behind (at + length a) b (behind at a d) ≡ behind at (a ++ b) d
-unfolding startingWith behind
+unfolding starting_with behind
 inside at a b d h =
     rw (before at a d h, beyond at a d h, drop-drop (length b) (length a) (drop at d), length-append) (simp append_assoc)
 
 -- a place past the end stands for the end
 past : (at : ℕ) (a d : List ℕ) → length d ≤ at → behind at a d ≡ d ++ a
-unfolding startingWith behind
+unfolding starting_with behind
 past at a d h = rw (take_all at d h, drop_of_length-le d h, drop-nil, append-nil)
 
 joined : (at : ℕ) (a b d : List ℕ) → behind (at + length a) b (behind at a d) ≡ behind at (a ++ b) d

@@ -3,7 +3,7 @@
 ghost use Rattle.std.specs.Prelude.{cond, [], ◌∷◌, ◌++◌, ◌+◌, ◌≤◌, length};
 ghost use Rattle.text.specs.Written.{Written};
 ghost use Rattle.place.specs.Place.{Placed};
-ghost use Rattle.place.specs.Value.{fixed, valueText};
+ghost use Rattle.place.specs.Value.{fixed, value_text};
 
 use units::{Charge, Hundredths, Millionths, Shown, TenThousandths};
 
@@ -35,7 +35,7 @@ fn put_fixed(x: u64, k: usize, out: &mut [u8]) -> usize
 
 fn put_value(v: Value, out: &mut [u8]) -> usize
     requires { 27 ≤ length out.old }
-    ensures { Written (valueText v) 27 out.old result out.new }
+    ensures { Written (value_text v) 27 out.old result out.new }
 {
     match v {
         Value::Whole(x) => text::put_decimal(x, out),
@@ -72,7 +72,7 @@ pub fn either(flag: bool, yes: &[u8], no: &[u8], at: usize, out: &mut [u8]) -> u
 // A word and a number behind it.
 pub fn item(w: &[u8], v: Value, at: usize, out: &mut [u8]) -> usize
     requires { at + length w.now + 27 ≤ length out.old }
-    ensures { Placed at (w.now ++ valueText v) (length w.now + 27) out.old result out.new }
+    ensures { Placed at (w.now ++ value_text v) (length w.now + 27) out.old result out.new }
 {
     let n = word(w, at, out);
     let k = put_value(v, &mut out[n..]);
@@ -82,7 +82,7 @@ pub fn item(w: &[u8], v: Value, at: usize, out: &mut [u8]) -> usize
 // A number and one byte behind it, a space or a newline.
 pub fn number(v: Value, after: u8, at: usize, out: &mut [u8]) -> usize
     requires { at + 28 ≤ length out.old }
-    ensures { Placed at (valueText v ++ (after ∷ [])) 28 out.old result out.new }
+    ensures { Placed at (value_text v ++ (after ∷ [])) 28 out.old result out.new }
 {
     let n = put_value(v, &mut out[at..]);
     word(&[after], at + n, out)

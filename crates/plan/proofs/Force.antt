@@ -5,38 +5,38 @@ use Prim.Native.Nat.{ℕ, ◌≤◌, ◌<◌, min, max}
 use native.Mathlib.Omega.{arith}
 use lib.Dec.{ltb, leb, eqb}
 use borrow.Author.Tests.{ltb-true, ltb-false, leb-true, eqb-true, lt-ltb, le-ltb, le-leb}
-use Rattle.calendar.specs.Date.{isDate}
+use Rattle.calendar.specs.Date.{is_date}
 use Rattle.answer.proofs.Tests.{cases, split}
 use Rattle.plan.specs.declared.Plan.{Plan}
-use Rattle.plan.specs.Plan.{cycleWord}
-use Rattle.plan.specs.Rules.{someDay, isGood}
-use Rattle.plan.specs.Force.{inPeriod, inForce, firstDay, endDay, meet}
+use Rattle.plan.specs.Plan.{cycle_word}
+use Rattle.plan.specs.Rules.{some_day, is_good}
+use Rattle.plan.specs.Force.{in_period, in_force, first_day, end_day, meet}
 use Rattle.plan.specs.Meeting.{Meeting}
 use Rattle.plan.proofs.Good.{start-date, window-dates, period-order, window-order}
 
 -- a date in a period is not before its first and before its last
-within : (from to d : ℕ) → inPeriod from to d ≡ true → (from ≤ d) × (d < to)
+within : (from to d : ℕ) → in_period from to d ≡ true → (from ≤ d) × (d < to)
 within from to d h = let t = split {a = leb from d} {b = ltb d to} h in (leb-true from d t.0, ltb-true d to t.1)
 
-inside : (from to d : ℕ) → from ≤ d → d < to → inPeriod from to d ≡ true
+inside : (from to d : ℕ) → from ≤ d → d < to → in_period from to d ≡ true
 inside from to d h k = rw (le-leb from d h, lt-ltb d to k)
 
 module _ (p : Plan) (d : ℕ) where
   -- a date in force lies in the run of days from the first date in force to the first one after it that is not
-  pub force-within : inForce p d ≡ true → (firstDay p ≤ d) × (d < endDay p)
-  unfolding inForce firstDay endDay
+  pub force-within : in_force p d ≡ true → (first_day p ≤ d) × (d < end_day p)
+  unfolding in_force first_day end_day
   force-within h =
-      let t = split {a = inPeriod p.start p.end d} h in
+      let t = split {a = in_period p.start p.end d} h in
       let a = within p.start p.end d t.0 in
-      cases (eqb (cycleWord p) 4)
+      cases (eqb (cycle_word p) 4)
       (λ e. let b = within p.first p.second d (rw e at t.1) in rw e (omega arith))
       (λ e. rw e a)
 
   -- every date of that run is in force
-  pub within-force : firstDay p ≤ d → d < endDay p → inForce p d ≡ true
-  unfolding inForce firstDay endDay
+  pub within-force : first_day p ≤ d → d < end_day p → in_force p d ≡ true
+  unfolding in_force first_day end_day
   within-force h k =
-      cases (eqb (cycleWord p) 4)
+      cases (eqb (cycle_word p) 4)
       (λ e.
       let f : max p.start p.first ≤ d = rw e at h in
       let g : d < min p.end p.second = rw e at k in
@@ -44,87 +44,87 @@ module _ (p : Plan) (d : ℕ) where
       (λ e. rw (e, inside p.start p.end d (rw e at h) (rw e at k)))
 
 -- between two dates in force every date is
-pub convex : (p : Plan) (a b c : ℕ) → a ≤ b → b ≤ c → inForce p a ≡ true → inForce p c ≡ true → inForce p b ≡ true
+pub convex : (p : Plan) (a b c : ℕ) → a ≤ b → b ≤ c → in_force p a ≡ true → in_force p c ≡ true → in_force p b ≡ true
 convex p a b c h k l m =
     let s = force-within p a l in
     let t = force-within p c m in
     within-force p b (omega arith) (omega arith)
 
 -- two plans that do not meet are never in force on one date
-pub no-meet : (p q : Plan) (d e : ℕ) → meet p q d ≡ false → d ≤ e → inForce p e ≡ true → inForce q e ≡ true → ⊥
+pub no-meet : (p q : Plan) (d e : ℕ) → meet p q d ≡ false → d ≤ e → in_force p e ≡ true → in_force q e ≡ true → ⊥
 unfolding meet
 no-meet p q d e h k l m =
     let s = force-within p e l in
     let t = force-within q e m in
-    omega (arith, ltb-false (max d (max (firstDay p) (firstDay q))) (min (endDay p) (endDay q)) h)
+    omega (arith, ltb-false (max d (max (first_day p) (first_day q))) (min (end_day p) (end_day q)) h)
 
 -- nor do they meet later
 pub meet-later : (p q : Plan) (d e : ℕ) → d ≤ e → meet p q d ≡ false → meet p q e ≡ false
 unfolding meet
 meet-later p q d e h k =
-    let n = ltb-false (max d (max (firstDay p) (firstDay q))) (min (endDay p) (endDay q)) k in
-    le-ltb (max e (max (firstDay p) (firstDay q))) (min (endDay p) (endDay q)) (omega arith)
+    let n = ltb-false (max d (max (first_day p) (first_day q))) (min (end_day p) (end_day q)) k in
+    le-ltb (max e (max (first_day p) (first_day q))) (min (end_day p) (end_day q)) (omega arith)
 
 -- which of the two is named first does not count
 pub meet-sym : (p q : Plan) (d : ℕ) → meet p q d ≡ meet q p d
 unfolding meet
 meet-sym p q d =
-    let from : max (firstDay p) (firstDay q) ≡ max (firstDay q) (firstDay p) = omega arith in
-    let to : min (endDay p) (endDay q) ≡ min (endDay q) (endDay p) = omega arith in
+    let from : max (first_day p) (first_day q) ≡ max (first_day q) (first_day p) = omega arith in
+    let to : min (end_day p) (end_day q) ≡ min (end_day q) (end_day p) = omega arith in
     rw (from, to)
 
 -- the later of two dates is a date
-later-date : (a b : ℕ) → isDate a ≡ true → isDate b ≡ true → isDate (max a b) ≡ true
+later-date : (a b : ℕ) → is_date a ≡ true → is_date b ≡ true → is_date (max a b) ≡ true
 later-date a b h k =
     cases (ltb a b)
     (λ e. let m : max a b ≡ b = omega (arith, ltb-true a b e) in rw m k)
     (λ e. let m : max a b ≡ a = omega (arith, ltb-false a b e) in rw m h)
 
 -- the first date in force is a date
-pub first-day-date : (p : Plan) → isGood p ≡ true → isDate (firstDay p) ≡ true
-unfolding firstDay
+pub first-day-date : (p : Plan) → is_good p ≡ true → is_date (first_day p) ≡ true
+unfolding first_day
 first-day-date p h =
-    cases (eqb (cycleWord p) 4)
-    (λ e. rw e (later-date p.start p.first (start-date p h) (window-dates p h (eqb-true (cycleWord p) 4 e)).0))
+    cases (eqb (cycle_word p) 4)
+    (λ e. rw e (later-date p.start p.first (start-date p h) (window-dates p h (eqb-true (cycle_word p) 4 e)).0))
     (λ e. rw e (start-date p h))
 
 -- and comes before the end
-first-before-end : (p : Plan) → isGood p ≡ true → firstDay p < endDay p
-unfolding firstDay endDay
+first-before-end : (p : Plan) → is_good p ≡ true → first_day p < end_day p
+unfolding first_day end_day
 first-before-end p h =
-    cases (eqb (cycleWord p) 4)
-    (λ e. let w = window-order p h (eqb-true (cycleWord p) 4 e) in rw e (omega (arith, period-order p h)))
+    cases (eqb (cycle_word p) 4)
+    (λ e. let w = window-order p h (eqb-true (cycle_word p) 4 e) in rw e (omega (arith, period-order p h)))
     (λ e. rw e (period-order p h))
 
 -- a good plan is in force on it
-pub first-in-force : (p : Plan) → isGood p ≡ true → inForce p (firstDay p) ≡ true
-first-in-force p h = within-force p (firstDay p) (omega arith) (first-before-end p h)
+pub first-in-force : (p : Plan) → is_good p ≡ true → in_force p (first_day p) ≡ true
+first-in-force p h = within-force p (first_day p) (omega arith) (first-before-end p h)
 
 -- a plan that is in force on a date, and has a day in its cycles, passes the test for it
-pub force-some-day : (p : Plan) (d : ℕ) → inForce p d ≡ true → (cycleWord p ≡ 5 → 1 ≤ p.second) → someDay p ≡ true
-unfolding someDay inForce
+pub force-some-day : (p : Plan) (d : ℕ) → in_force p d ≡ true → (cycle_word p ≡ 5 → 1 ≤ p.second) → some_day p ≡ true
+unfolding some_day in_force
 force-some-day p d h n =
-    let t = split {a = inPeriod p.start p.end d} h in
+    let t = split {a = in_period p.start p.end d} h in
     let a = within p.start p.end d t.0 in
     let s = lt-ltb p.start p.end (omega arith) in
-    cases (eqb (cycleWord p) 4)
+    cases (eqb (cycle_word p) 4)
     (λ e.
     let b = within p.first p.second d (rw e at t.1) in
     rw (s, e, lt-ltb p.first p.second (omega arith), lt-ltb p.start p.second (omega arith), lt-ltb p.first p.end (omega arith)))
     (λ e.
-    cases (eqb (cycleWord p) 5)
-    (λ f. rw (s, e, f, le-leb 1 p.second (n (eqb-true (cycleWord p) 5 f))))
+    cases (eqb (cycle_word p) 5)
+    (λ f. rw (s, e, f, le-leb 1 p.second (n (eqb-true (cycle_word p) 5 f))))
     (λ f. rw (s, e, f)))
 
 -- plans that meet have a meeting: the latest of the date and the first days
-pub meet-says : (p q : Plan) (d : ℕ) → isGood p ≡ true → isGood q ≡ true → isDate d ≡ true → meet p q d ≡ true → Meeting p q d
+pub meet-says : (p q : Plan) (d : ℕ) → is_good p ≡ true → is_good q ≡ true → is_date d ≡ true → meet p q d ≡ true → Meeting p q d
 unfolding meet
 meet-says p q d hp hq hd h =
-    let e : ℕ = max d (max (firstDay p) (firstDay q)) in
-    let k = ltb-true (max d (max (firstDay p) (firstDay q))) (min (endDay p) (endDay q)) h in
+    let e : ℕ = max d (max (first_day p) (first_day q)) in
+    let k = ltb-true (max d (max (first_day p) (first_day q))) (min (end_day p) (end_day q)) h in
     record {
       date = e;
-      real = later-date d (max (firstDay p) (firstDay q)) hd (later-date (firstDay p) (firstDay q) (first-day-date p hp) (first-day-date q hq));
+      real = later-date d (max (first_day p) (first_day q)) hd (later-date (first_day p) (first_day q) (first-day-date p hp) (first-day-date q hq));
       later = omega arith;
       one = within-force p e (omega arith) (omega arith);
       two = within-force q e (omega arith) (omega arith);
@@ -136,4 +136,4 @@ unfolding meet
 says-meet p q d m =
     let s = force-within p m.date m.one in
     let t = force-within q m.date m.two in
-    lt-ltb (max d (max (firstDay p) (firstDay q))) (min (endDay p) (endDay q)) (omega arith)
+    lt-ltb (max d (max (first_day p) (first_day q))) (min (end_day p) (end_day q)) (omega arith)

@@ -9,23 +9,23 @@ use borrow.Author.Tests.{lt-ltb}
 use Rattle.answer.proofs.Tests.{cases}
 use Rattle.units.specs.Volume.{volume, price}
 use Rattle.plan.specs.declared.Plan.{Plan}
-use Rattle.plan.specs.Plan.{mostSteps, six, width_at, priceAt, cycleWord, hasExtra, keptWidth, keptPrice, tidy}
-use Rattle.plan.specs.Rules.{pairGood, hasPrice, stepsGood, wordGood, numbersGood, datesGood, someDay, priced, verdict, isGood}
+use Rattle.plan.specs.Plan.{most_steps, six, width_at, price_at, cycle_word, has_extra, kept_width, kept_price, tidy}
+use Rattle.plan.specs.Rules.{pair_good, has_price, steps_good, word_good, numbers_good, dates_good, some_day, priced, verdict, is_good}
 use Rattle.plan.proofs.Every.{every-same}
 use Rattle.plan.proofs.Good.{steps-most}
 
 -- the cycle word as it is read
-pub tidy-word : (p : Plan) → cycleWord (tidy p) ≡ cycleWord p
-unfolding cycleWord tidy
+pub tidy-word : (p : Plan) → cycle_word (tidy p) ≡ cycle_word p
+unfolding cycle_word tidy
 tidy-word p = cases (ltb p.steps 2) (λ e. rw e) (λ e. rw e)
 
 -- whether the two extra fields are read
-pub tidy-extra : (p : Plan) → hasExtra (tidy p) ≡ hasExtra p
-unfolding hasExtra
+pub tidy-extra : (p : Plan) → has_extra (tidy p) ≡ has_extra p
+unfolding has_extra
 tidy-extra p = rw (tidy-word p)
 
 -- one of six
-of-six : {A : Type 0} (f : ℕ → A) (d : A) (i : ℕ) → i < mostSteps → get_or (six f) i d ≡ f i
+of-six : {A : Type 0} (f : ℕ → A) (d : A) (i : ℕ) → i < most_steps → get_or (six f) i d ≡ f i
 of-six f d zero h = refl
 of-six f d (suc zero) h = refl
 of-six f d (suc (suc zero)) h = refl
@@ -34,63 +34,63 @@ of-six f d (suc (suc (suc (suc zero)))) h = refl
 of-six f d (suc (suc (suc (suc (suc zero))))) h = refl
 of-six f d (suc (suc (suc (suc (suc (suc i)))))) h = absurd (omega arith)
 
-module _ (p : Plan) (m : p.steps ≤ mostSteps) (i : ℕ) (h : i < p.steps) where
+module _ (p : Plan) (m : p.steps ≤ most_steps) (i : ℕ) (h : i < p.steps) where
   -- a width that is read
   tidy-width : width_at (tidy p) i ≡ width_at p i
   unfolding tidy
-  tidy-width = rw (of-six (keptWidth p) (volume 0) i (omega arith), lt-ltb i p.steps h)
+  tidy-width = rw (of-six (kept_width p) (volume 0) i (omega arith), lt-ltb i p.steps h)
 
   -- a price that is read
-  tidy-price : priceAt (tidy p) i ≡ priceAt p i
+  tidy-price : price_at (tidy p) i ≡ price_at p i
   unfolding tidy
-  tidy-price = rw (of-six (keptPrice p) (price 0) i (omega arith), lt-ltb i p.steps h)
+  tidy-price = rw (of-six (kept_price p) (price 0) i (omega arith), lt-ltb i p.steps h)
 
 -- the tests of the refusals, one by one
 module _ (p : Plan) where
-  steps-same : stepsGood (tidy p) ≡ stepsGood p
-  unfolding stepsGood tidy
+  steps-same : steps_good (tidy p) ≡ steps_good p
+  unfolding steps_good tidy
   steps-same = refl
 
-  word_same : wordGood (tidy p) ≡ wordGood p
-  unfolding wordGood tidy cycleWord
+  word_same : word_good (tidy p) ≡ word_good p
+  unfolding word_good tidy cycle_word
   word_same = cases (ltb p.steps 2) (λ e. rw e) (λ e. rw e)
 
-  numbers-same : p.steps ≤ mostSteps → numbersGood (tidy p) ≡ numbersGood p
-  unfolding numbersGood tidy
+  numbers-same : p.steps ≤ most_steps → numbers_good (tidy p) ≡ numbers_good p
+  unfolding numbers_good tidy
   numbers-same m =
       rw (
         tidy-extra p,
-        every-same (pairGood (tidy p)) (pairGood p) p.steps (λ j k. rw (tidy-width p m j k, tidy-price p m j k)),
+        every-same (pair_good (tidy p)) (pair_good p) p.steps (λ j k. rw (tidy-width p m j k, tidy-price p m j k)),
       )
-      (cases (hasExtra p) (λ e. rw e) (λ e. rw e))
+      (cases (has_extra p) (λ e. rw e) (λ e. rw e))
 
-  dates-same : datesGood (tidy p) ≡ datesGood p
-  unfolding datesGood hasExtra tidy
+  dates-same : dates_good (tidy p) ≡ dates_good p
+  unfolding dates_good has_extra tidy
   dates-same =
       rw (tidy-word p)
-      (cases (eqb (cycleWord p) 4) (λ e. rw e) (λ e. cases (eqb (cycleWord p) 5) (λ f. rw (e, f)) (λ f. rw (e, f))))
+      (cases (eqb (cycle_word p) 4) (λ e. rw e) (λ e. cases (eqb (cycle_word p) 5) (λ f. rw (e, f)) (λ f. rw (e, f))))
 
-  days-same : someDay (tidy p) ≡ someDay p
-  unfolding someDay hasExtra tidy
+  days-same : some_day (tidy p) ≡ some_day p
+  unfolding some_day has_extra tidy
   days-same =
       rw (tidy-word p)
-      (cases (eqb (cycleWord p) 4) (λ e. rw e) (λ e. cases (eqb (cycleWord p) 5) (λ f. rw (e, f)) (λ f. rw (e, f))))
+      (cases (eqb (cycle_word p) 4) (λ e. rw e) (λ e. cases (eqb (cycle_word p) 5) (λ f. rw (e, f)) (λ f. rw (e, f))))
 
-  prices-same : p.steps ≤ mostSteps → priced (tidy p) ≡ priced p
+  prices-same : p.steps ≤ most_steps → priced (tidy p) ≡ priced p
   unfolding priced tidy
-  prices-same m = every-same (hasPrice (tidy p)) (hasPrice p) p.steps (λ j k. rw (tidy-price p m j k))
+  prices-same m = every-same (has_price (tidy p)) (has_price p) p.steps (λ j k. rw (tidy-price p m j k))
 
   -- what refuses the plan
   pub tidy-verdict : verdict (tidy p) ≡ verdict p
   unfolding verdict
   tidy-verdict =
-      cases (stepsGood p)
+      cases (steps_good p)
       (λ e. let m = steps-most p e in rw (steps-same, word_same, numbers-same m, dates-same, days-same, prices-same m))
       (λ e. rw (steps-same, e))
 
   -- whether nothing does
-  pub tidy-good : isGood (tidy p) ≡ isGood p
-  unfolding isGood
+  pub tidy-good : is_good (tidy p) ≡ is_good p
+  unfolding is_good
   tidy-good = rw tidy-verdict
 
 -- a field that is put to zero once more

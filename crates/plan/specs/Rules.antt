@@ -1,12 +1,12 @@
 -- Document 01, "Read a plan" and "Write a plan": refusals 2 to 7. Only fields that are read are looked at, and "each is tested over
 -- all fields before the next". A number above 99,999,999 stands for a field with a digit above 9, so that one test serves both.
 use Rattle.std.specs.Prelude.{Bool, true, cond, ◌&&◌, ◌||◌, ℕ, zero, suc, ltb, leb, eqb}
-use Rattle.calendar.specs.Date.{isDate}
+use Rattle.calendar.specs.Date.{is_date}
 use Rattle.plan.specs.declared.Plan.{Plan}
 use Rattle.answer.specs.declared.Answer.{Answer}
 use Rattle.answer.specs.declared.Answer.TheVariants.{Accepted}
-use Rattle.answer.specs.Answer.{need, isAccepted}
-use Rattle.plan.specs.Plan.{mostSteps, width_at, priceAt, cycleWord, hasExtra}
+use Rattle.answer.specs.Answer.{need, is_accepted}
+use Rattle.plan.specs.Plan.{most_steps, width_at, price_at, cycle_word, has_extra}
 
 -- every k below n
 unfoldable pub every : (ℕ → Bool) → ℕ → Bool
@@ -14,57 +14,57 @@ every f zero = true
 every f (suc n) = every f n && f n
 
 -- "2, steps byte not 01 to 06"
-unfoldable pub stepsGood : Plan → Bool
-stepsGood p = leb 1 p.steps && leb p.steps mostSteps
+unfoldable pub steps_good : Plan → Bool
+steps_good p = leb 1 p.steps && leb p.steps most_steps
 
 -- "3, cycle word read and not 01 to 05"
-unfoldable pub wordGood : Plan → Bool
-wordGood p = ltb p.steps 2 || (leb 1 p.word && leb p.word 5)
+unfoldable pub word_good : Plan → Bool
+word_good p = ltb p.steps 2 || (leb 1 p.word && leb p.word 5)
 
 -- "4, a digit above 9 in a read field"; in writing, "4 for a number above 99,999,999"
-abbrev pub mostNumber : ℕ
-mostNumber = 99999999
+abbrev pub most_number : ℕ
+most_number = 99999999
 
-abbrev pub eightDigits : ℕ → Bool
-eightDigits x = leb x mostNumber
+abbrev pub eight_digits : ℕ → Bool
+eight_digits x = leb x most_number
 
-abbrev pub pairGood : Plan → ℕ → Bool
-pairGood p i = eightDigits (width_at p i) && eightDigits (priceAt p i)
+abbrev pub pair_good : Plan → ℕ → Bool
+pair_good p i = eight_digits (width_at p i) && eight_digits (price_at p i)
 
-unfoldable pub numbersGood : Plan → Bool
-numbersGood p =
-    eightDigits p.start && (eightDigits p.end
-    && (cond (hasExtra p) (eightDigits p.first && eightDigits p.second) true && every (pairGood p) p.steps))
+unfoldable pub numbers_good : Plan → Bool
+numbers_good p =
+    eight_digits p.start && (eight_digits p.end
+    && (cond (has_extra p) (eight_digits p.first && eight_digits p.second) true && every (pair_good p) p.steps))
 
 -- "5, a read date not in the calendar above": start, end, both ends of the window, the first cycle day
-unfoldable pub datesGood : Plan → Bool
-datesGood p =
-    isDate p.start && (isDate p.end
-    && cond (eqb (cycleWord p) 4) (isDate p.first && isDate p.second) (cond (eqb (cycleWord p) 5) (isDate p.first) true))
+unfoldable pub dates_good : Plan → Bool
+dates_good p =
+    is_date p.start && (is_date p.end
+    && cond (eqb (cycle_word p) 4) (is_date p.first && is_date p.second) (cond (eqb (cycle_word p) 5) (is_date p.first) true))
 
 -- "6, no day in force, or days in a cycle 0"
-unfoldable pub someDay : Plan → Bool
-someDay p =
+unfoldable pub some_day : Plan → Bool
+some_day p =
     ltb p.start p.end
-    && cond (eqb (cycleWord p) 4) (ltb p.first p.second && (ltb p.start p.second && ltb p.first p.end))
-    (cond (eqb (cycleWord p) 5) (leb 1 p.second) true)
+    && cond (eqb (cycle_word p) 4) (ltb p.first p.second && (ltb p.start p.second && ltb p.first p.end))
+    (cond (eqb (cycle_word p) 5) (leb 1 p.second) true)
 
 -- "7, a price of 0 among the n"
-abbrev pub hasPrice : Plan → ℕ → Bool
-hasPrice p i = leb 1 (priceAt p i)
+abbrev pub has_price : Plan → ℕ → Bool
+has_price p i = leb 1 (price_at p i)
 
 unfoldable pub priced : Plan → Bool
-priced p = every (hasPrice p) p.steps
+priced p = every (has_price p) p.steps
 
 unfoldable pub verdict : Plan → Answer
 verdict p =
-    need (stepsGood p) 2
-    (need (wordGood p) 3
-    (need (numbersGood p) 4
-    (need (datesGood p) 5
-    (need (someDay p) 6
+    need (steps_good p) 2
+    (need (word_good p) 3
+    (need (numbers_good p) 4
+    (need (dates_good p) 5
+    (need (some_day p) 6
     (need (priced p) 7 Accepted)))))
 
 -- a plan that none of them refuses
-unfoldable pub isGood : Plan → Bool
-isGood p = isAccepted (verdict p)
+unfoldable pub is_good : Plan → Bool
+is_good p = is_accepted (verdict p)

@@ -1,14 +1,14 @@
 // Document 01, "Days in force and cycles".
 ghost use Rattle.std.specs.Prelude.{◌≡◌, true, min, max};
-ghost use Rattle.calendar.specs.Date.{isDate};
-ghost use Rattle.plan.specs.Rules.{isGood};
-ghost use Rattle.plan.specs.Force.{inPeriod, inForce, firstDay, endDay, meet};
-ghost use Rattle.plan.specs.Cycles.{cycleOf};
+ghost use Rattle.calendar.specs.Date.{is_date};
+ghost use Rattle.plan.specs.Rules.{is_good};
+ghost use Rattle.plan.specs.Force.{in_period, in_force, first_day, end_day, meet};
+ghost use Rattle.plan.specs.Cycles.{cycle_of};
 
 use crate::Plan;
 
 fn in_period(from: u32, to: u32, d: u32) -> bool
-    ensures { result ≡ inPeriod from to d }
+    ensures { result ≡ in_period from to d }
 {
     (from <= d) & (d < to)
 }
@@ -27,7 +27,7 @@ fn earlier(a: u32, b: u32) -> u32
 
 impl Plan {
     pub fn in_force(self, d: u32) -> bool
-        ensures { result ≡ inForce self d }
+        ensures { result ≡ in_force self d }
     {
         if !in_period(self.start, self.end, d) {
             return false;
@@ -39,7 +39,7 @@ impl Plan {
     }
 
     fn first_day(self) -> u32
-        ensures { result ≡ firstDay self }
+        ensures { result ≡ first_day self }
     {
         if self.cycle_word() == 4 {
             return later(self.start, self.first);
@@ -48,7 +48,7 @@ impl Plan {
     }
 
     fn end_day(self) -> u32
-        ensures { result ≡ endDay self }
+        ensures { result ≡ end_day self }
     {
         if self.cycle_word() == 4 {
             return earlier(self.end, self.second);
@@ -66,9 +66,9 @@ impl Plan {
 
     // The cycle that a date lies in, by a number that tells the plan's cycles apart.
     pub fn cycle_of(self, d: u32) -> u32
-        requires self_value { isGood self ≡ true }
-        requires d_value { isDate d ≡ true }
-        ensures { result ≡ cycleOf self d }
+        requires self_value { is_good self ≡ true }
+        requires d_value { is_date d ≡ true }
+        ensures { result ≡ cycle_of self d }
     {
         let w = self.cycle_word();
         if w == 5 {

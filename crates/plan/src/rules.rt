@@ -1,8 +1,8 @@
 // Document 01, "Read a plan" and "Write a plan": refusals 2 to 7.
 ghost use Rattle.std.specs.Prelude.{◌≡◌, true, cond, ◌&&◌, ◌≤◌, eqb};
-ghost use Rattle.calendar.specs.Date.{isDate};
-ghost use Rattle.plan.specs.Plan.{mostSteps, cycleWord, hasExtra};
-ghost use Rattle.plan.specs.Rules.{every, eightDigits, pairGood, stepsGood, wordGood, numbersGood, datesGood, someDay, priced, verdict, isGood};
+ghost use Rattle.calendar.specs.Date.{is_date};
+ghost use Rattle.plan.specs.Plan.{most_steps, cycle_word, has_extra};
+ghost use Rattle.plan.specs.Rules.{every, eight_digits, pair_good, steps_good, word_good, numbers_good, dates_good, some_day, priced, verdict, is_good};
 
 use crate::Plan;
 use answer::Answer;
@@ -16,20 +16,20 @@ struct Pairs {
 
 impl Plan {
     fn steps_good(self) -> bool
-        ensures { result ≡ stepsGood self }
+        ensures { result ≡ steps_good self }
     {
         (1 <= self.steps) & (self.steps as usize <= Plan::MOST_STEPS)
     }
 
     fn word_good(self) -> bool
-        ensures { result ≡ wordGood self }
+        ensures { result ≡ word_good self }
     {
         (self.steps < 2) | ((1 <= self.word) & (self.word <= 5))
     }
 
     fn pairs(self) -> Pairs
-        requires { self.steps ≤ mostSteps }
-        ensures { (result.digits ≡ every (pairGood self) self.steps) × (result.priced ≡ priced self) }
+        requires { self.steps ≤ most_steps }
+        ensures { (result.digits ≡ every (pair_good self) self.steps) × (result.priced ≡ priced self) }
     {
         let n = self.steps as usize;
         let mut digits = true;
@@ -46,7 +46,7 @@ impl Plan {
     }
 
     fn extra_good(self) -> bool
-        ensures { result ≡ cond (hasExtra self) (eightDigits self.first && eightDigits self.second) true }
+        ensures { result ≡ cond (has_extra self) (eight_digits self.first && eight_digits self.second) true }
     {
         if !self.has_extra() {
             return true;
@@ -56,15 +56,15 @@ impl Plan {
 
     // `pairs`: the numbers of the n pairs pass.
     fn numbers_good(self, pairs: bool) -> bool
-        requires { pairs ≡ every (pairGood self) self.steps }
-        ensures { result ≡ numbersGood self }
+        requires { pairs ≡ every (pair_good self) self.steps }
+        ensures { result ≡ numbers_good self }
     {
         (self.start <= Plan::MOST_NUMBER)
             & ((self.end <= Plan::MOST_NUMBER) & (self.extra_good() & pairs))
     }
 
     fn extra_dates_good(self) -> bool
-        ensures { result ≡ cond (eqb (cycleWord self) 4) (isDate self.first && isDate self.second) (cond (eqb (cycleWord self) 5) (isDate self.first) true) }
+        ensures { result ≡ cond (eqb (cycle_word self) 4) (is_date self.first && is_date self.second) (cond (eqb (cycle_word self) 5) (is_date self.first) true) }
     {
         let w = self.cycle_word();
         if w == 4 {
@@ -77,13 +77,13 @@ impl Plan {
     }
 
     fn dates_good(self) -> bool
-        ensures { result ≡ datesGood self }
+        ensures { result ≡ dates_good self }
     {
         calendar::is_date(self.start) && (calendar::is_date(self.end) && self.extra_dates_good())
     }
 
     fn some_day(self) -> bool
-        ensures { result ≡ someDay self }
+        ensures { result ≡ some_day self }
     {
         if self.end <= self.start {
             return false;
@@ -127,7 +127,7 @@ impl Plan {
 
     // Whether none of them refuses the plan.
     pub fn is_good(self) -> bool
-        ensures { result ≡ isGood self }
+        ensures { result ≡ is_good self }
     {
         self.vet().accepted()
     }

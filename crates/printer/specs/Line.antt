@@ -5,28 +5,28 @@ use Rattle.text.specs.Decimal.{decimal, spaced}
 use Rattle.answer.specs.declared.Answer.{Answer}
 use Rattle.answer.specs.declared.Answer.TheVariants.{Accepted, Refused}
 use Rattle.plan.specs.declared.Plan.{Plan}
-use Rattle.plan.specs.Plan.{width_at, priceAt, cycleWord, hasExtra}
+use Rattle.plan.specs.Plan.{width_at, price_at, cycle_word, has_extra}
 use Rattle.record.specs.Record.{read_of}
 
 -- n pairs of volume and price, from pair i on
-unfoldable pub pairsFrom : Plan → ℕ → ℕ → List ℕ
-pairsFrom p zero i = []
-pairsFrom p (suc n) i = width_at p i ∷ priceAt p i ∷ pairsFrom p n (i + 1)
+unfoldable pub pairs_from : Plan → ℕ → ℕ → List ℕ
+pairs_from p zero i = []
+pairs_from p (suc n) i = width_at p i ∷ price_at p i ∷ pairs_from p n (i + 1)
 
 -- the numbers of a plan's line
-unfoldable pub numbersOf : Plan → List ℕ
-numbersOf p =
-    p.start ∷ p.end ∷ p.steps ∷ cycleWord p
-    ∷ (cond (hasExtra p) (p.first ∷ p.second ∷ []) [] ++ pairsFrom p p.steps 0)
+unfoldable pub numbers_of : Plan → List ℕ
+numbers_of p =
+    p.start ∷ p.end ∷ p.steps ∷ cycle_word p
+    ∷ (cond (has_extra p) (p.first ∷ p.second ∷ []) [] ++ pairs_from p p.steps 0)
 
 -- the word `refused` and a space
-abbrev pub refusedWord : List ℕ
-refusedWord = 114 ∷ 101 ∷ 102 ∷ 117 ∷ 115 ∷ 101 ∷ 100 ∷ 32 ∷ []
+abbrev pub refused_word : List ℕ
+refused_word = 114 ∷ 101 ∷ 102 ∷ 117 ∷ 115 ∷ 101 ∷ 100 ∷ 32 ∷ []
 
-abbrev pub answerLine : Answer → Plan → List ℕ
-answerLine Accepted p = spaced (numbersOf p) ++ (10 ∷ [])
-answerLine (Refused n) p = refusedWord ++ (decimal n ++ (10 ∷ []))
+abbrev pub answer_line : Answer → Plan → List ℕ
+answer_line Accepted p = spaced (numbers_of p) ++ (10 ∷ [])
+answer_line (Refused n) p = refused_word ++ (decimal n ++ (10 ∷ []))
 
 -- the line of a record: any list of bytes
 unfoldable pub line_of : List ℕ → List ℕ
-line_of s = answerLine (read_of s).answer (read_of s).plan
+line_of s = answer_line (read_of s).answer (read_of s).plan

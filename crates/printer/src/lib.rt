@@ -1,12 +1,12 @@
 // Document 01, "The plan printer": the line of a plan record, and the lines of records one behind
 // another, put into a lent buffer.
 ghost use Rattle.std.specs.Prelude.{◌≡◌, true, [], ◌∷◌, ◌++◌, ◌*◌, ◌≤◌, ◌<◌, length};
-ghost use Rattle.text.specs.Decimal.{decimal, spaced, startingWith};
-ghost use Rattle.plan.specs.Rules.{isGood};
-ghost use Rattle.record.specs.Fields.{recordLength};
-ghost use Rattle.printer.specs.Line.{numbersOf, refusedWord, line_of};
-ghost use Rattle.printer.specs.Records.{recordsIn, recordAt, lines_of};
-ghost use Rattle.printer.specs.Columns.{sixPairs, withExtra, withoutExtra, columnsOf, count_of};
+ghost use Rattle.text.specs.Decimal.{decimal, spaced, starting_with};
+ghost use Rattle.plan.specs.Rules.{is_good};
+ghost use Rattle.record.specs.Fields.{record_length};
+ghost use Rattle.printer.specs.Line.{numbers_of, refused_word, line_of};
+ghost use Rattle.printer.specs.Records.{records_in, record_at, lines_of};
+ghost use Rattle.printer.specs.Columns.{six_pairs, with_extra, without_extra, columns_of, count_of};
 
 use answer::Answer;
 use plan::Plan;
@@ -20,7 +20,7 @@ fn wide(x: u32) -> u64
 
 // The six pairs of volume and price, read or not.
 fn pairs_of(p: Plan) -> [u64; 12]
-    ensures { result ≡ sixPairs p }
+    ensures { result ≡ six_pairs p }
 {
     [
         wide(p.widths[0].0),
@@ -40,7 +40,7 @@ fn pairs_of(p: Plan) -> [u64; 12]
 
 // The numbers of a line with the extra fields: w is the cycle word as it is read, q the pairs.
 fn with_extra(p: Plan, w: u8, q: [u64; 12]) -> [u64; 18]
-    ensures { result ≡ withExtra p w q }
+    ensures { result ≡ with_extra p w q }
 {
     [
         p.start as u64,
@@ -66,7 +66,7 @@ fn with_extra(p: Plan, w: u8, q: [u64; 12]) -> [u64; 18]
 
 // The same without them.
 fn without_extra(p: Plan, w: u8, q: [u64; 12]) -> [u64; 18]
-    ensures { result ≡ withoutExtra p w q }
+    ensures { result ≡ without_extra p w q }
 {
     [
         p.start as u64,
@@ -92,7 +92,7 @@ fn without_extra(p: Plan, w: u8, q: [u64; 12]) -> [u64; 18]
 
 // The numbers of a plan's line, and others behind them.
 fn columns_of(p: Plan) -> [u64; 18]
-    ensures { result ≡ columnsOf p }
+    ensures { result ≡ columns_of p }
 {
     let w = p.cycle_word();
     let q = pairs_of(p);
@@ -115,8 +115,8 @@ fn count_of(p: Plan) -> usize
 
 // The line of a plan that was read.
 fn plan_line(p: Plan, out: &mut [u8]) -> usize
-    requires { (isGood p ≡ true) × (378 ≤ length out.old) }
-    ensures { (result ≡ length (spaced (numbersOf p) ++ (10 ∷ []))) × (result ≤ 378) × (out.new ≡ startingWith (spaced (numbersOf p) ++ (10 ∷ [])) out.old) }
+    requires { (is_good p ≡ true) × (378 ≤ length out.old) }
+    ensures { (result ≡ length (spaced (numbers_of p) ++ (10 ∷ []))) × (result ≤ 378) × (out.new ≡ starting_with (spaced (numbers_of p) ++ (10 ∷ [])) out.old) }
 {
     let v = columns_of(p);
     let n = count_of(p);
@@ -126,7 +126,7 @@ fn plan_line(p: Plan, out: &mut [u8]) -> usize
 // The line of a refusal.
 fn refusal_line(k: u8, out: &mut [u8]) -> usize
     requires { 378 ≤ length out.old }
-    ensures { (result ≡ length (refusedWord ++ (decimal k ++ (10 ∷ [])))) × (result ≤ 378) × (out.new ≡ startingWith (refusedWord ++ (decimal k ++ (10 ∷ []))) out.old) }
+    ensures { (result ≡ length (refused_word ++ (decimal k ++ (10 ∷ [])))) × (result ≤ 378) × (out.new ≡ starting_with (refused_word ++ (decimal k ++ (10 ∷ []))) out.old) }
 {
     let at = text::put_bytes(b"refused ", out);
     let n = text::put_item(k as u64, 10, &mut out[at..]);
@@ -136,7 +136,7 @@ fn refusal_line(k: u8, out: &mut [u8]) -> usize
 // The line of a record, a slice of any length.
 pub fn line(s: &[u8], out: &mut [u8]) -> usize
     requires { 378 ≤ length out.old }
-    ensures { (result ≡ length (line_of s.now)) × (result ≤ 378) × (out.new ≡ startingWith (line_of s.now) out.old) }
+    ensures { (result ≡ length (line_of s.now)) × (result ≤ 378) × (out.new ≡ starting_with (line_of s.now) out.old) }
 {
     let r = record::read(s);
     let a = r.answer;
@@ -148,8 +148,8 @@ pub fn line(s: &[u8], out: &mut [u8]) -> usize
 
 // Record i of those that stand one behind another in s; the last may be short.
 fn record_at(s: &[u8], i: usize) -> &[u8]
-    requires { recordLength * i < length s.now }
-    ensures { result.now ≡ recordAt s.now i }
+    requires { record_length * i < length s.now }
+    ensures { result.now ≡ record_at s.now i }
 {
     let from = record::LENGTH * i;
     if s.len() - from < record::LENGTH {
@@ -161,8 +161,8 @@ fn record_at(s: &[u8], i: usize) -> &[u8]
 
 // The lines of all the records in s.
 pub fn lines(s: &[u8], out: &mut [u8]) -> usize
-    requires { 378 * recordsIn s.now ≤ length out.old }
-    ensures { (result ≡ length (lines_of s.now)) × (result ≤ length out.old) × (out.new ≡ startingWith (lines_of s.now) out.old) }
+    requires { 378 * records_in s.now ≤ length out.old }
+    ensures { (result ≡ length (lines_of s.now)) × (result ≤ length out.old) × (out.new ≡ starting_with (lines_of s.now) out.old) }
 {
     let count = (s.len() + (record::LENGTH - 1)) / record::LENGTH;
     let mut i = 0;

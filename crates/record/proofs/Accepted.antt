@@ -8,7 +8,7 @@ use lib.ListN.{length}
 use Rattle.answer.specs.declared.Answer.TheVariants.{Accepted}
 use Rattle.answer.proofs.Tests.{need-rest}
 use Rattle.plan.specs.Plan.{tidy}
-use Rattle.plan.specs.Rules.{verdict, isGood}
+use Rattle.plan.specs.Rules.{verdict, is_good}
 use Rattle.plan.proofs.Good.{good-verdict}
 use Rattle.plan.proofs.Tidy.{tidy-good}
 use Rattle.record.specs.Fields.{fields_of}
@@ -25,9 +25,9 @@ module _ (s : List ℕ) (h : (read_of s).answer ≡ Accepted) where
   unfolding read_of
   read-plan = rw h
 
-  pub fields-good : isGood (fields_of s) ≡ true
+  pub fields-good : is_good (fields_of s) ≡ true
   fields-good = good-verdict (fields_of s) read-verdict
 
 -- A PLAN THAT WAS READ IS GOOD
-pub read-good : (s : List ℕ) → (read_of s).answer ≡ Accepted → isGood (read_of s).plan ≡ true
+pub read-good : (s : List ℕ) → (read_of s).answer ≡ Accepted → is_good (read_of s).plan ≡ true
 read-good s h = rw (read-plan s h) (tidy-good (fields_of s) ∙ fields-good s h)

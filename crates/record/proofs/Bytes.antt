@@ -7,8 +7,8 @@ use native.Mathlib.Omega.{arith}
 use lib.ListN.{length, get_or, set, drop_of_length-le}
 use lib.Seq.{length-sets, sets-eq}
 use Rattle.plan.specs.declared.Plan.{Plan}
-use Rattle.record.specs.Digits.{fourBytes}
-use Rattle.record.specs.Fields.{twoAt, pairsIn, bytes_of}
+use Rattle.record.specs.Digits.{four_bytes}
+use Rattle.record.specs.Fields.{two_at, pairs_in, bytes_of}
 
 -- f 0, f 1, .. : n of them
 abbrev pub table : (ℕ → ℕ) → ℕ → List ℕ
@@ -25,15 +25,15 @@ pub bytes-length : (p : Plan) → length (bytes_of p) ≡ 66
 unfolding bytes_of
 bytes-length p = refl
 
-pub two-long : (l : List ℕ) (i x y : ℕ) → length (twoAt l i x y) ≡ length l
-unfolding twoAt
-two-long l i x y = length-sets l i (fourBytes x ++ fourBytes y)
+pub two-long : (l : List ℕ) (i x y : ℕ) → length (two_at l i x y) ≡ length l
+unfolding two_at
+two-long l i x y = length-sets l i (four_bytes x ++ four_bytes y)
 
 -- a buffer l after the fields in front of the pairs
-abbrev frontIn : Plan → List ℕ → List ℕ
-frontIn p l = twoAt (set (set (twoAt l 0 p.start p.end) 8 p.steps) 9 p.word) 10 p.first p.second
+abbrev front_in : Plan → List ℕ → List ℕ
+front_in p l = two_at (set (set (two_at l 0 p.start p.end) 8 p.steps) 9 p.word) 10 p.first p.second
 
 -- a buffer of 66 bytes into which every field was written is the record
-pub all_in : (p : Plan) (l : List ℕ) → length l ≡ 66 → pairsIn p (frontIn p l) 6 ≡ bytes_of p
-unfolding bytes_of twoAt
+pub all_in : (p : Plan) (l : List ℕ) → length l ≡ 66 → pairs_in p (front_in p l) 6 ≡ bytes_of p
+unfolding bytes_of two_at
 all_in p l h = sets-eq (bytes_of p) l 0 (omega arith) ∙ rw (drop_of_length-le l {i = 66} (omega arith))

@@ -7,11 +7,11 @@ use native.Mathlib.Omega.{arith}
 use Rattle.answer.proofs.Tests.{split}
 use Rattle.digits.specs.Digits.{pair_of}
 use Rattle.digits.proofs.Digits.{byte_pair, byte-digits, pair-byte}
-use Rattle.plan.specs.Rules.{mostNumber}
-use Rattle.record.specs.Digits.{twoDigits, number_of, quadOf, quadAt, fourBytes}
+use Rattle.plan.specs.Rules.{most_number}
+use Rattle.record.specs.Digits.{two_digits, number_of, quad_of, quad_at, four_bytes}
 
 -- a number of eight digits, by hundreds
-regroup : (x : ℕ) → x ≤ mostNumber → ((x / 1000000 % 100 * 100 + x / 10000 % 100) * 100 + x / 100 % 100) * 100 + x % 100 ≡ x
+regroup : (x : ℕ) → x ≤ most_number → ((x / 1000000 % 100 * 100 + x / 10000 % 100) * 100 + x / 100 % 100) * 100 + x % 100 ≡ x
 regroup x h =
     let top : x / 1000000 % 100 * 100 + x / 10000 % 100 ≡ x / 10000 = omega arith in
     let whole : x / 10000 * 100 + x / 100 % 100 ≡ x / 100 = omega arith in
@@ -23,8 +23,8 @@ apart : (a b c d : ℕ) → a < 100 → b < 100 → c < 100 → d < 100
 apart a b c d ha hb hc hd = (omega arith, omega arith, omega arith, omega arith)
 
 -- written and then read
-pub quad-back : (x : ℕ) → x ≤ mostNumber → quadAt (fourBytes x) 0 ≡ x
-unfolding quadOf
+pub quad-back : (x : ℕ) → x ≤ most_number → quad_at (four_bytes x) 0 ≡ x
+unfolding quad_of
 quad-back x h =
     let a : x / 1000000 % 100 < 100 = omega arith in
     let b : x / 10000 % 100 < 100 = omega arith in
@@ -33,18 +33,18 @@ quad-back x h =
     rw (byte-digits _ a, byte-digits _ b, byte-digits _ c, byte-digits _ d, byte_pair _ a, byte_pair _ b, byte_pair _ c, byte_pair _ d) (regroup x h)
 
 -- a field that is a number has two digits in each byte
-good : (t : Bool) (x : ℕ) → cond t x 100000000 ≤ mostNumber → (t ≡ true) × (cond t x 100000000 ≡ x)
+good : (t : Bool) (x : ℕ) → cond t x 100000000 ≤ most_number → (t ≡ true) × (cond t x 100000000 ≡ x)
 good true x h = (refl, refl)
-good false x h = absurd (let z : 100000000 ≤ mostNumber = h in omega arith)
+good false x h = absurd (let z : 100000000 ≤ most_number = h in omega arith)
 
 -- read and then written
-pub quad-there : (a b c d : ℕ) → quadOf a b c d ≤ mostNumber → fourBytes (quadOf a b c d) ≡ a ∷ b ∷ c ∷ d ∷ []
-unfolding quadOf
+pub quad-there : (a b c d : ℕ) → quad_of a b c d ≤ most_number → four_bytes (quad_of a b c d) ≡ a ∷ b ∷ c ∷ d ∷ []
+unfolding quad_of
 quad-there a b c d h =
-    let g = good (twoDigits a && (twoDigits b && (twoDigits c && twoDigits d))) (number_of a b c d) h in
-    let ta = split {a = twoDigits a} g.0 in
-    let tb = split {a = twoDigits b} ta.1 in
-    let tc = split {a = twoDigits c} tb.1 in
+    let g = good (two_digits a && (two_digits b && (two_digits c && two_digits d))) (number_of a b c d) h in
+    let ta = split {a = two_digits a} g.0 in
+    let tb = split {a = two_digits b} ta.1 in
+    let tc = split {a = two_digits c} tb.1 in
     let pa = pair-byte a ta.0 in
     let pb = pair-byte b tb.0 in
     let pc = pair-byte c tc.0 in

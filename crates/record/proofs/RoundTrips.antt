@@ -12,13 +12,13 @@ use Rattle.answer.specs.declared.Answer.TheVariants.{Accepted}
 use Rattle.answer.proofs.Tests.{split}
 use Rattle.units.specs.Volume.{volume, price}
 use Rattle.plan.specs.declared.Plan.{Plan}
-use Rattle.plan.specs.Plan.{six, width_at, priceAt, cycleWord, hasExtra, keptWidth, keptPrice, tidy}
-use Rattle.plan.specs.Rules.{mostNumber, eightDigits, numbersGood, verdict, isGood}
+use Rattle.plan.specs.Plan.{six, width_at, price_at, cycle_word, has_extra, kept_width, kept_price, tidy}
+use Rattle.plan.specs.Rules.{most_number, eight_digits, numbers_good, verdict, is_good}
 use Rattle.plan.proofs.Good.{tests, verdict-good, width-bound, price-range}
 use Rattle.plan.proofs.Tidy.{tidy-verdict, tidy-again}
-use Rattle.record.specs.Digits.{quadAt, fourBytes}
-use Rattle.record.specs.Fields.{recordLength, fields_of, bytes_of, byteRead}
-use Rattle.record.specs.Record.{read_of, writeAnswer, readByte}
+use Rattle.record.specs.Digits.{quad_at, four_bytes}
+use Rattle.record.specs.Fields.{record_length, fields_of, bytes_of, byte_read}
+use Rattle.record.specs.Record.{read_of, write_answer, read_byte}
 use Rattle.record.specs.RoundTrips.{WrittenRead, ReadWritten, RoundTrips}
 use Rattle.record.proofs.Accepted.{read-verdict, read-plan, fields-good}
 use Rattle.record.proofs.Bytes.{table, table_at, bytes-length}
@@ -26,30 +26,30 @@ use Rattle.record.proofs.Digits.{quad-back, quad-there}
 use Rattle.record.proofs.Writing.{judged, filled}
 
 -- a number that is 0 where it is not read is read back
-kept_back : (t : Bool) (x : ℕ) → (t ≡ true → x ≤ mostNumber) → quadAt (fourBytes (cond t x 0)) 0 ≡ cond t x 0
+kept_back : (t : Bool) (x : ℕ) → (t ≡ true → x ≤ most_number) → quad_at (four_bytes (cond t x 0)) 0 ≡ cond t x 0
 kept_back true x h = quad-back x (h refl)
 kept_back false x h = quad-back 0 (omega arith)
 
 six-same : {A : Type 0} (f g : ℕ → A) → ((i : ℕ) → f i ≡ g i) → six f ≡ six g
 six-same f g h = rw (h 0, h 1, h 2, h 3, h 4, h 5)
 
-module _ (p : Plan) (h : isGood p ≡ true) where
+module _ (p : Plan) (h : is_good p ≡ true) where
   -- a good plan's numbers have eight digits at most where they are read
-  numbers : (p.start ≤ mostNumber) × (p.end ≤ mostNumber) × (hasExtra p ≡ true → (p.first ≤ mostNumber) × (p.second ≤ mostNumber))
-  unfolding numbersGood
+  numbers : (p.start ≤ most_number) × (p.end ≤ most_number) × (has_extra p ≡ true → (p.first ≤ most_number) × (p.second ≤ most_number))
+  unfolding numbers_good
   numbers =
-      let s = split {a = eightDigits p.start} (tests p h).numbers in
-      let e = split {a = eightDigits p.end} s.1 in
-      let x = split {a = cond (hasExtra p) (eightDigits p.first && eightDigits p.second) true} e.1 in (
+      let s = split {a = eight_digits p.start} (tests p h).numbers in
+      let e = split {a = eight_digits p.end} s.1 in
+      let x = split {a = cond (has_extra p) (eight_digits p.first && eight_digits p.second) true} e.1 in (
         leb-true _ _ s.0,
         leb-true _ _ e.0,
-        λ t. let f = split {a = eightDigits p.first} (rw t at x.0) in (leb-true _ _ f.0, leb-true _ _ f.1),
+        λ t. let f = split {a = eight_digits p.first} (rw t at x.0) in (leb-true _ _ f.0, leb-true _ _ f.1),
       )
 
-  width_back : (i : ℕ) → volume (quadAt (fourBytes (keptWidth p i).0) 0) ≡ keptWidth p i
+  width_back : (i : ℕ) → volume (quad_at (four_bytes (kept_width p i).0) 0) ≡ kept_width p i
   width_back i = ap volume (kept_back _ _ (λ t. width-bound p h i (ltb-true _ _ t)))
 
-  price-back : (i : ℕ) → price (quadAt (fourBytes (keptPrice p i).0) 0) ≡ keptPrice p i
+  price-back : (i : ℕ) → price (quad_at (four_bytes (kept_price p i).0) 0) ≡ kept_price p i
   price-back i = ap price (kept_back _ _ (λ t. (price-range p h i (ltb-true _ _ t)).1))
 
   -- each field is read from the bytes that it was written in
@@ -59,10 +59,10 @@ module _ (p : Plan) (h : isGood p ≡ true) where
       rw (
         quad-back p.start numbers.0,
         quad-back p.end numbers.1,
-        kept_back (hasExtra p) p.first (λ t. (numbers.2 t).0),
-        kept_back (hasExtra p) p.second (λ t. (numbers.2 t).1),
-        six-same _ (keptWidth p) width_back,
-        six-same _ (keptPrice p) price-back,
+        kept_back (has_extra p) p.first (λ t. (numbers.2 t).0),
+        kept_back (has_extra p) p.second (λ t. (numbers.2 t).1),
+        six-same _ (kept_width p) width_back,
+        six-same _ (kept_price p) price-back,
       )
 
 -- written and then read
@@ -77,7 +77,7 @@ abbrev four : List ℕ → Bool → ℕ → List ℕ
 four s t i = cond t (get_or s i 0) 0 ∷ cond t (get_or s (i + 1) 0) 0 ∷ cond t (get_or s (i + 2) 0) 0 ∷ cond t (get_or s (i + 3) 0) 0 ∷ []
 
 -- a field is written in the bytes that it was read from
-field-kept : (s : List ℕ) (t : Bool) (i : ℕ) → (t ≡ true → quadAt s i ≤ mostNumber) → fourBytes (cond t (quadAt s i) 0) ≡ four s t i
+field-kept : (s : List ℕ) (t : Bool) (i : ℕ) → (t ≡ true → quad_at s i ≤ most_number) → four_bytes (cond t (quad_at s i) 0) ≡ four s t i
 field-kept s true i h = quad-there _ _ _ _ (h refl)
 field-kept s false i h = refl
 
@@ -88,20 +88,20 @@ word_kept : (t : Bool) (x : ℕ) → cond t 0 x ≡ cond (not t) x 0
 word_kept true x = refl
 word_kept false x = refl
 
-module _ (s : List ℕ) (h : isGood (fields_of s) ≡ true) where
+module _ (s : List ℕ) (h : is_good (fields_of s) ≡ true) where
   -- pair k, whose volume stands at byte i and whose price at byte j
-  pair-kept : (k i j : ℕ) → width_at (fields_of s) k ≡ quadAt s i → priceAt (fields_of s) k ≡ quadAt s j
+  pair-kept : (k i j : ℕ) → width_at (fields_of s) k ≡ quad_at s i → price_at (fields_of s) k ≡ quad_at s j
       → let t = ltb k (fields_of s).steps in
-      fourBytes (cond t (quadAt s i) 0) ++ fourBytes (cond t (quadAt s j) 0) ≡ four s t i ++ four s t j
+      four_bytes (cond t (quad_at s i) 0) ++ four_bytes (cond t (quad_at s j) 0) ≡ four s t i ++ four s t j
   pair-kept k i j e f =
       glue (field-kept s _ i (λ t. rw e at (width-bound (fields_of s) h k (ltb-true _ _ t))))
       (field-kept s _ j (λ t. rw f at (price-range (fields_of s) h k (ltb-true _ _ t)).1))
 
-  bytes-kept : bytes_of (tidy (fields_of s)) ≡ table (readByte s) recordLength
-  unfolding fields_of bytes_of byteRead tidy cycleWord
+  bytes-kept : bytes_of (tidy (fields_of s)) ≡ table (read_byte s) record_length
+  unfolding fields_of bytes_of byte_read tidy cycle_word
   bytes-kept =
       let n = numbers (fields_of s) h in
-      let x : Bool = hasExtra (fields_of s) in
+      let x : Bool = has_extra (fields_of s) in
       let e =
       glue (field-kept s true 0 (λ t. n.0))
       (glue (field-kept s true 4 (λ t. n.1))
@@ -120,11 +120,11 @@ module _ (s : List ℕ) (h : isGood (fields_of s) ≡ true) where
 read-written : ReadWritten
 read-written s out h m =
     let v : verdict (read_of s).plan ≡ Accepted = rw (read-plan s h) (tidy-verdict (fields_of s) ∙ read-verdict s h) in
-    let w : writeAnswer (read_of s).plan out ≡ Accepted = sym (judged (read_of s).plan out Accepted m (sym v)) in (
+    let w : write_answer (read_of s).plan out ≡ Accepted = sym (judged (read_of s).plan out Accepted m (sym v)) in (
       w,
       λ i l.
           rw ((filled (read_of s).plan out w).1, read-plan s h, tidy-again (fields_of s), bytes-kept s (fields-good s h))
-          (table_at (readByte s) recordLength i l),
+          (table_at (read_byte s) record_length i l),
     )
 
 pub round-trips : RoundTrips

@@ -5,8 +5,8 @@ use Rattle.std.specs.Borrow.{Bor}
 use Rattle.answer.specs.declared.Answer.{Answer}
 use Rattle.answer.specs.declared.Answer.TheVariants.{Accepted}
 use Rattle.answer.specs.declared.Answer.TheVariants.{Refused as Declined}
-use Rattle.calendar.specs.Date.{isDate}
-use Rattle.plan.specs.Force.{inForce}
+use Rattle.calendar.specs.Date.{is_date}
+use Rattle.plan.specs.Force.{in_force}
 use Rattle.record.specs.declared.Choice.{Choice}
 use Rattle.record.specs.declared.Choice.TheVariants.{First, Second, Refused}
 use Rattle.record.specs.Record.{read_of}
@@ -25,10 +25,10 @@ unless (Declined n) c = Refused n
 
 unfoldable pub choice_of : List ℕ → List ℕ → ℕ → Choice
 choice_of first second d =
-    cond (isDate d)
+    cond (is_date d)
     (unless (read_of first).answer
     (unless (read_of second).answer
-    (which (inForce (read_of first).plan d) (inForce (read_of second).plan d))))
+    (which (in_force (read_of first).plan d) (in_force (read_of second).plan d))))
     (Refused 8)
 
 -- the bytes that a choice hands back: one of the two, or none

@@ -6,55 +6,55 @@ use Rattle.units.specs.declared.Hundredths.{Hundredths}
 use Rattle.units.specs.declared.TenThousandths.{TenThousandths}
 use Rattle.units.specs.Volume.{volume, price}
 use Rattle.plan.specs.declared.Plan.{Plan}
-use Rattle.plan.specs.Plan.{six, width_at, priceAt, hasExtra}
-use Rattle.record.specs.Digits.{quadAt, fourBytes}
+use Rattle.plan.specs.Plan.{six, width_at, price_at, has_extra}
+use Rattle.record.specs.Digits.{quad_at, four_bytes}
 
 -- "Always 66 bytes"
-abbrev pub recordLength : ℕ
-recordLength = 66
+abbrev pub record_length : ℕ
+record_length = 66
 
 -- the fields of a record as it stands, read or not
-abbrev pub widthsOf : List ℕ → List Hundredths
-widthsOf s = six (λ i. volume (quadAt s (18 + 8 * i)))
+abbrev pub widths_of : List ℕ → List Hundredths
+widths_of s = six (λ i. volume (quad_at s (18 + 8 * i)))
 
-abbrev pub pricesOf : List ℕ → List TenThousandths
-pricesOf s = six (λ i. price (quadAt s (22 + 8 * i)))
+abbrev pub prices_of : List ℕ → List TenThousandths
+prices_of s = six (λ i. price (quad_at s (22 + 8 * i)))
 
 unfoldable pub fields_of : List ℕ → Plan
 fields_of s = record {
-  start = quadAt s 0;
-  end = quadAt s 4;
+  start = quad_at s 0;
+  end = quad_at s 4;
   steps = get_or s 8 0;
   word = get_or s 9 0;
-  first = quadAt s 10;
-  second = quadAt s 14;
-  widths = widthsOf s;
-  prices = pricesOf s;
+  first = quad_at s 10;
+  second = quad_at s 14;
+  widths = widths_of s;
+  prices = prices_of s;
 }
 
 -- a buffer with the bytes of two numbers, one behind the other, from byte i on
-unfoldable pub twoAt : List ℕ → ℕ → ℕ → ℕ → List ℕ
-twoAt l i x y = sets l i (fourBytes x ++ fourBytes y)
+unfoldable pub two_at : List ℕ → ℕ → ℕ → ℕ → List ℕ
+two_at l i x y = sets l i (four_bytes x ++ four_bytes y)
 
 -- a buffer l after the first n pairs were written into it
-abbrev pub pairsIn : Plan → List ℕ → ℕ → List ℕ
-pairsIn p l zero = l
-pairsIn p l (suc n) = twoAt (pairsIn p l n) (18 + 8 * n) (width_at p n) (priceAt p n)
+abbrev pub pairs_in : Plan → List ℕ → ℕ → List ℕ
+pairs_in p l zero = l
+pairs_in p l (suc n) = two_at (pairs_in p l n) (18 + 8 * n) (width_at p n) (price_at p n)
 
 -- pair i in bytes: volume 4, price 4
-abbrev pub pairBytes : Plan → ℕ → List ℕ
-pairBytes p i = fourBytes (width_at p i) ++ fourBytes (priceAt p i)
+abbrev pub pair_bytes : Plan → ℕ → List ℕ
+pair_bytes p i = four_bytes (width_at p i) ++ four_bytes (price_at p i)
 
 -- a plan in bytes, every field of it
 unfoldable pub bytes_of : Plan → List ℕ
 bytes_of p =
-    fourBytes p.start ++ (fourBytes p.end ++ (p.steps ∷ p.word ∷ (fourBytes p.first ++ (fourBytes p.second
-    ++ (pairBytes p 0 ++ (pairBytes p 1 ++ (pairBytes p 2 ++ (pairBytes p 3 ++ (pairBytes p 4 ++ pairBytes p 5)))))))))
+    four_bytes p.start ++ (four_bytes p.end ++ (p.steps ∷ p.word ∷ (four_bytes p.first ++ (four_bytes p.second
+    ++ (pair_bytes p 0 ++ (pair_bytes p 1 ++ (pair_bytes p 2 ++ (pair_bytes p 3 ++ (pair_bytes p 4 ++ pair_bytes p 5)))))))))
 
 -- whether byte i of a record is read, for a plan with its fields: dates and steps always; the cycle word with two steps or more; the
 -- extra fields with words 04 and 05; pair k below n
-unfoldable pub byteRead : Plan → ℕ → Bool
-byteRead p i =
+unfoldable pub byte_read : Plan → ℕ → Bool
+byte_read p i =
     cond (ltb i 9) true
     (cond (ltb i 10) (not (ltb p.steps 2))
-    (cond (ltb i 18) (hasExtra p) (ltb ((i - 18) / 8) p.steps)))
+    (cond (ltb i 18) (has_extra p) (ltb ((i - 18) / 8) p.steps)))

@@ -2,9 +2,9 @@
 // force": 66 bytes, two decimal digits a byte, high digit first.
 ghost use Rattle.std.specs.Prelude.{◌≡◌, ◌+◌, ◌≤◌, length};
 ghost use Rattle.std.proofs.lemmas.List.Edits.{sets};
-ghost use Rattle.record.specs.Digits.{number_of, quadOf, quadAt, fourBytes};
-ghost use Rattle.record.specs.Fields.{recordLength, widthsOf, pricesOf, fields_of, twoAt, pairsIn, bytes_of};
-ghost use Rattle.record.specs.Record.{reading_of, read_of, writeAnswer, written};
+ghost use Rattle.record.specs.Digits.{number_of, quad_of, quad_at, four_bytes};
+ghost use Rattle.record.specs.Fields.{record_length, widths_of, prices_of, fields_of, two_at, pairs_in, bytes_of};
+ghost use Rattle.record.specs.Record.{reading_of, read_of, write_answer, written};
 ghost use Rattle.record.specs.Choice.{which, choice_of, part_of, handed};
 
 use answer::Answer;
@@ -38,7 +38,7 @@ fn number(a: u8, b: u8, c: u8, d: u8) -> u32
 
 // The field of four bytes: its number, or 100,000,000 where a digit is above 9.
 fn quad(a: u8, b: u8, c: u8, d: u8) -> u32
-    ensures { result ≡ quadOf a b c d }
+    ensures { result ≡ quad_of a b c d }
 {
     let low = digits::two_digits(c) & digits::two_digits(d);
     if digits::two_digits(a) & (digits::two_digits(b) & low) {
@@ -50,15 +50,15 @@ fn quad(a: u8, b: u8, c: u8, d: u8) -> u32
 // The field that begins at byte `at`.
 fn quad_at(s: &[u8], at: usize) -> u32
     requires { at + 4 ≤ length s.now }
-    ensures { result ≡ quadAt s.now at }
+    ensures { result ≡ quad_at s.now at }
 {
     quad(s[at], s[at + 1], s[at + 2], s[at + 3])
 }
 
 // The six volumes, and the six prices.
 fn widths_of(s: &[u8]) -> [Hundredths; 6]
-    requires { length s.now ≡ recordLength }
-    ensures { result ≡ widthsOf s.now }
+    requires { length s.now ≡ record_length }
+    ensures { result ≡ widths_of s.now }
 {
     [
         Hundredths(quad_at(s, 18)),
@@ -71,8 +71,8 @@ fn widths_of(s: &[u8]) -> [Hundredths; 6]
 }
 
 fn prices_of(s: &[u8]) -> [TenThousandths; 6]
-    requires { length s.now ≡ recordLength }
-    ensures { result ≡ pricesOf s.now }
+    requires { length s.now ≡ record_length }
+    ensures { result ≡ prices_of s.now }
 {
     [
         TenThousandths(quad_at(s, 22) as u64),
@@ -86,7 +86,7 @@ fn prices_of(s: &[u8]) -> [TenThousandths; 6]
 
 // The fields of a record as it stands.
 fn fields_of(s: &[u8]) -> Plan
-    requires { length s.now ≡ recordLength }
+    requires { length s.now ≡ record_length }
     ensures { result ≡ fields_of s.now }
 {
     Plan {
@@ -131,7 +131,7 @@ pub fn read(s: &[u8]) -> Reading
 // Writes a number of eight digits into the four bytes that begin at byte `at`.
 fn put_quad(x: u64, at: usize, out: &mut [u8])
     requires { at + 4 ≤ length out.old }
-    ensures { out.new ≡ sets out.old at (fourBytes x) }
+    ensures { out.new ≡ sets out.old at (four_bytes x) }
 {
     out[at] = digits::bcd(x / 1_000_000 % 100);
     out[at + 1] = digits::bcd(x / 10_000 % 100);
@@ -142,7 +142,7 @@ fn put_quad(x: u64, at: usize, out: &mut [u8])
 // Writes two numbers, one behind the other, into the eight bytes that begin at byte `at`.
 fn put_two(x: u64, y: u64, at: usize, out: &mut [u8])
     requires { at + 8 ≤ length out.old }
-    ensures { out.new ≡ twoAt out.old at x y }
+    ensures { out.new ≡ two_at out.old at x y }
 {
     put_quad(x, at, out);
     put_quad(y, at + 4, out);
@@ -150,8 +150,8 @@ fn put_two(x: u64, y: u64, at: usize, out: &mut [u8])
 
 // Writes the six pairs of volume and price.
 fn put_pairs(p: Plan, out: &mut [u8])
-    requires { length out.old ≡ recordLength }
-    ensures { out.new ≡ pairsIn p out.old 6 }
+    requires { length out.old ≡ record_length }
+    ensures { out.new ≡ pairs_in p out.old 6 }
 {
     let mut i = 0;
     while i < Plan::MOST_STEPS {
@@ -164,7 +164,7 @@ fn put_pairs(p: Plan, out: &mut [u8])
 
 // Fills a buffer with the bytes of a plan, every field of it.
 fn put(p: Plan, out: &mut [u8])
-    requires { length out.old ≡ recordLength }
+    requires { length out.old ≡ record_length }
     ensures { out.new ≡ bytes_of p }
 {
     put_two(p.start as u64, p.end as u64, 0, out);
@@ -177,7 +177,7 @@ fn put(p: Plan, out: &mut [u8])
 // Writes a plan into a lent buffer: its read fields and zero elsewhere; or 26, then 2 to 7, and the
 // buffer stands as before.
 pub fn write(p: Plan, out: &mut [u8]) -> Answer
-    ensures { (result ≡ writeAnswer p out.old) × (out.new ≡ written p out.old) }
+    ensures { (result ≡ write_answer p out.old) × (out.new ≡ written p out.old) }
 {
     if out.len() != LENGTH {
         return Answer::Refused(26);

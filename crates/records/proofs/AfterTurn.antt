@@ -6,19 +6,19 @@ use native.Mathlib.Omega.{arith}
 use lib.ListN.{length, get_or}
 use lib.Signed.{mag}
 use Rattle.units.specs.declared.Millionths.{Millionths}
-use Rattle.calendar.specs.Cycle.{monthStart}
+use Rattle.calendar.specs.Cycle.{month_start}
 use Rattle.answer.proofs.Tests.{cases}
 use Rattle.records.specs.declared.Record.{Record}
 use Rattle.records.specs.declared.Periods.{Periods}
-use Rattle.records.specs.Records.{inFront}
-use Rattle.records.specs.Turn.{laterMonth, closed, dayRecord, monthRecord}
-use Rattle.records.specs.Words.{rows, heldFrom, held_of, noWords}
-use Rattle.records.specs.Moves.{pushed, closedWords}
+use Rattle.records.specs.Records.{in_front}
+use Rattle.records.specs.Turn.{later_month, closed, day_record, month_record}
+use Rattle.records.specs.Words.{rows, held_from, held_of, no_words}
+use Rattle.records.specs.Moves.{pushed, closed_words}
 use Rattle.records.proofs.Pushed.{Fits, rows_same, pushed_long, pushed-before, pushed-after, pushed-count, pushed-rows}
 
 -- a fresh meter's words
-pub none-long : length noWords ≡ 548
-unfolding noWords
+pub none-long : length no_words ≡ 548
+unfolding no_words
 none-long = refl
 
 -- as many are held as the count says
@@ -27,53 +27,53 @@ unfolding rows
 rows_long h at zero = refl
 rows_long h at (suc n) = ap suc (rows_long h (at + 3) n)
 
-pub held-long : (from : ℕ) (h : List ℕ) → length (heldFrom from h) ≡ get_or h from 0
-unfolding heldFrom
+pub held-long : (from : ℕ) (h : List ℕ) → length (held_from from h) ≡ get_or h from 0
+unfolding held_from
 held-long from h = rows_long h (from + 1) (get_or h from 0)
 
 -- a day or a month is pushed, and the others stay; months stay only where no more are counted than the words have room for
 module _ (r : Record) (h : List ℕ) (long : length h ≡ 548) where
-  days-pushed : Fits r → heldFrom 0 (pushed 0 62 r h) ≡ inFront 62 r (heldFrom 0 h)
+  days-pushed : Fits r → held_from 0 (pushed 0 62 r h) ≡ in_front 62 r (held_from 0 h)
   days-pushed f = pushed-rows 0 62 r h (omega arith) (omega arith) f
 
-  months-pushed : Fits r → heldFrom 187 (pushed 187 120 r h) ≡ inFront 120 r (heldFrom 187 h)
+  months-pushed : Fits r → held_from 187 (pushed 187 120 r h) ≡ in_front 120 r (held_from 187 h)
   months-pushed f = pushed-rows 187 120 r h (omega arith) (omega arith) f
 
-  months-stay : heldFrom 187 (pushed 0 62 r h) ≡ heldFrom 187 h
-  unfolding heldFrom
+  months-stay : held_from 187 (pushed 0 62 r h) ≡ held_from 187 h
+  unfolding held_from
   months-stay =
       let same = pushed-after 0 62 r h (omega arith) (omega arith) in
       rw (same 187 (omega arith)) (rows_same (pushed 0 62 r h) h 188 188 _ (λ j p. same (188 + j) (omega arith)))
 
-  days-stay : get_or h 0 0 ≤ 62 → heldFrom 0 (pushed 187 120 r h) ≡ heldFrom 0 h
-  unfolding heldFrom
+  days-stay : get_or h 0 0 ≤ 62 → held_from 0 (pushed 187 120 r h) ≡ held_from 0 h
+  unfolding held_from
   days-stay few =
       let same = pushed-before 187 120 r h (omega arith) (omega arith) in
       rw (same 0 (omega arith)) (rows_same (pushed 187 120 r h) h 1 1 _ (λ j p. same (1 + j) (omega arith)))
 
 -- the turn of a day
 module _ (p : Periods) (from to : ℕ) (closing : Millionths) (h : List ℕ) (long : length h ≡ 548) where
-  abbrev dayTurned : List ℕ
-  dayTurned = pushed 0 62 (dayRecord p from closing) h
+  abbrev day_turned : List ℕ
+  day_turned = pushed 0 62 (day_record p from closing) h
 
-  day-long : length dayTurned ≡ 548
-  day-long = pushed_long 0 62 (dayRecord p from closing) h (omega arith) (omega arith) ∙ long
+  day-long : length day_turned ≡ 548
+  day-long = pushed_long 0 62 (day_record p from closing) h (omega arith) (omega arith) ∙ long
 
-  pub closed-long : length (closedWords p from to closing h) ≡ 548
-  unfolding closedWords
+  pub closed-long : length (closed_words p from to closing h) ≡ 548
+  unfolding closed_words
   closed-long =
-      let month-long = pushed_long 187 120 (monthRecord p from closing) dayTurned (omega arith) (omega (arith, day-long)) in
-      cases (laterMonth from to) (λ e. rw e (month-long ∙ day-long)) (λ e. rw e day-long)
+      let month-long = pushed_long 187 120 (month_record p from closing) day_turned (omega arith) (omega (arith, day-long)) in
+      cases (later_month from to) (λ e. rw e (month-long ∙ day-long)) (λ e. rw e day-long)
 
-  pub closed-held : from < 2 ^ 32 → mag closing.0 < 2 ^ 63 → held_of (closedWords p from to closing h) ≡ closed (held_of h) p from to closing
-  unfolding closedWords closed monthStart
+  pub closed-held : from < 2 ^ 32 → mag closing.0 < 2 ^ 63 → held_of (closed_words p from to closing h) ≡ closed (held_of h) p from to closing
+  unfolding closed_words closed month_start
   closed-held k s =
       let m : from / 100 * 100 + 1 < 2 ^ 32 = omega arith in
-      let a = days-pushed (dayRecord p from closing) h long (record { date = k; closing = s }) in
-      let b = months-stay (dayRecord p from closing) h long in
-      let c = days-stay (monthRecord p from closing) dayTurned day-long (days-few) in
-      let d = months-pushed (monthRecord p from closing) dayTurned day-long (record { date = m; closing = s }) in
-      cases (laterMonth from to) (λ e. rw (e, c, d, a, b)) (λ e. rw (e, a, b))
+      let a = days-pushed (day_record p from closing) h long (record { date = k; closing = s }) in
+      let b = months-stay (day_record p from closing) h long in
+      let c = days-stay (month_record p from closing) day_turned day-long (days-few) in
+      let d = months-pushed (month_record p from closing) day_turned day-long (record { date = m; closing = s }) in
+      cases (later_month from to) (λ e. rw (e, c, d, a, b)) (λ e. rw (e, a, b))
     where
-      days-few : get_or dayTurned 0 0 ≤ 62
-      days-few = omega (arith, pushed-count 0 62 (dayRecord p from closing) h (omega arith) (omega arith))
+      days-few : get_or day_turned 0 0 ≤ 62
+      days-few = omega (arith, pushed-count 0 62 (day_record p from closing) h (omega arith) (omega arith))

@@ -8,8 +8,8 @@ use lib.ListN.{take, drop, get_or, length, length-append, length-drop, get_or-ap
 use lib.Seq.{length-take-le, get_or-take, get_or-drop, get_or-append-add}
 use lib.Signed.{mag}
 use Rattle.records.specs.declared.Record.{Record}
-use Rattle.records.specs.Records.{inFront}
-use Rattle.records.specs.Words.{balanceWord, recordWords, recordFrom, recordAt, rows, heldFrom}
+use Rattle.records.specs.Records.{in_front}
+use Rattle.records.specs.Words.{balance_word, record_words, record_from, record_at, rows, held_from}
 use Rattle.records.specs.Moves.{pushed}
 use Rattle.records.proofs.Balances.{read_back}
 
@@ -19,8 +19,8 @@ pub record Fits (r : Record) : Type 0 where
   pub closing : mag r.closing.0 < 2 ^ 63
 
 -- a record is read again from its words
-pub record-back : (r : Record) → Fits r → recordFrom (r.volume.0 * 2 ^ 32 + r.date) r.charge.0 (balanceWord r.closing.0) ≡ r
-unfolding recordFrom
+pub record-back : (r : Record) → Fits r → record_from (r.volume.0 * 2 ^ 32 + r.date) r.charge.0 (balance_word r.closing.0) ≡ r
+unfolding record_from
 record-back r f =
     let d : (r.volume.0 * 2 ^ 32 + r.date) % 2 ^ 32 ≡ r.date = omega arith in
     let v : (r.volume.0 * 2 ^ 32 + r.date) / 2 ^ 32 ≡ r.volume.0 = omega arith in
@@ -75,16 +75,16 @@ module _ (from limit : ℕ) (r : Record) (h : List ℕ) (some : 0 < limit) (fits
   -- the words from the count on
   behind : (j : ℕ)
       → get_or (pushed from limit r h) (from + j) 0
-      ≡ get_or ((stay from limit h + 1) ∷ (recordWords r ++ (moving from (stay from limit h) h ++ resting from (stay from limit h) h))) j 0
+      ≡ get_or ((stay from limit h + 1) ∷ (record_words r ++ (moving from (stay from limit h) h ++ resting from (stay from limit h) h))) j 0
   unfolding pushed
   behind j =
       let n = stay from limit h in
-      rw front at (get_or-append-add (take from h) ((n + 1) ∷ (recordWords r ++ (moving from n h ++ resting from n h))) j 0)
+      rw front at (get_or-append-add (take from h) ((n + 1) ∷ (record_words r ++ (moving from n h ++ resting from n h))) j 0)
 
   pub pushed-count : get_or (pushed from limit r h) from 0 ≡ stay from limit h + 1
   pushed-count = simp add-zero at (behind 0)
 
-  pub pushed-new : Fits r → recordAt (pushed from limit r h) (from + 1) ≡ r
+  pub pushed-new : Fits r → record_at (pushed from limit r h) (from + 1) ≡ r
   pushed-new f =
       let a : from + 1 + 1 ≡ from + 2 = omega arith in
       let b : from + 1 + 2 ≡ from + 3 = omega arith in
@@ -112,8 +112,8 @@ module _ (from limit : ℕ) (r : Record) (h : List ℕ) (some : 0 < limit) (fits
       ∙ get_or-drop (from + 3 * n + 4) h i 0)
 
   -- the records
-  pub pushed-rows : Fits r → heldFrom from (pushed from limit r h) ≡ inFront limit r (heldFrom from h)
-  unfolding rows heldFrom
+  pub pushed-rows : Fits r → held_from from (pushed from limit r h) ≡ in_front limit r (held_from from h)
+  unfolding rows held_from
   pushed-rows f =
       let n = stay from limit h in
       let e : get_or (pushed from limit r h) from 0 ≡ suc n = omega (arith, pushed-count) in

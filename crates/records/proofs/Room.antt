@@ -3,19 +3,19 @@ use mathlib.Core.Path.{◌≡◌}
 use mathlib.Core.Bool.{true}
 use Prim.Native.Nat.{ℕ, ◌*◌, ◌≤◌}
 use Rattle.records.specs.declared.Periods.{Periods}
-use Rattle.records.specs.Bounds.{periodsGood}
+use Rattle.records.specs.Bounds.{periods_good}
 use Rattle.records.proofs.Parts.{tally-is, periods-are}
 
 -- no volume above the total, no charge above the most that it can cost
 pub record Room (total : ℕ) (p : Periods) : Type 0 where
-  pub dayVolume : p.day.volume.0 ≤ total
-  pub monthVolume : p.month.volume.0 ≤ total
-  pub dayCharge : p.day.charge.0 ≤ total * 99999999
-  pub monthCharge : p.month.charge.0 ≤ total * 99999999
+  pub day_volume : p.day.volume.0 ≤ total
+  pub month_volume : p.month.volume.0 ≤ total
+  pub day_charge : p.day.charge.0 ≤ total * 99999999
+  pub month_charge : p.month.charge.0 ≤ total * 99999999
 
-pub room : (total : ℕ) (p : Periods) → periodsGood total p ≡ true → Room total p
+pub room : (total : ℕ) (p : Periods) → periods_good total p ≡ true → Room total p
 room total p h =
     let g = periods-are total p h in
     let d = tally-is total p.day g.0 in
     let m = tally-is total p.month g.1 in
-    record { dayVolume = d.volumes; monthVolume = m.volumes; dayCharge = d.charges; monthCharge = m.charges }
+    record { day_volume = d.volumes; month_volume = m.volumes; day_charge = d.charges; month_charge = m.charges }

@@ -6,8 +6,8 @@ use native.Mathlib.Omega.{arith}
 use Rattle.records.specs.declared.Fetched.TheVariants.{Held, Refused}
 use Rattle.records.specs.Queries.{fetched}
 use lib.ListN.{get_or}
-use Rattle.records.specs.Records.{noRecord}
-use Rattle.records.specs.Words.{recordAt, rows}
+use Rattle.records.specs.Records.{no_record}
+use Rattle.records.specs.Words.{record_at, rows}
 
 module _ (h : List ℕ) (from n : ℕ) where
   -- all are left
@@ -20,7 +20,7 @@ module _ (h : List ℕ) (from n : ℕ) where
   -- record i is the next
   pub rows_next : (i : ℕ)
       → i < n
-      → rows h (from + 3 * i + 1) (n - i) ≡ recordAt h (from + 3 * i + 1) ∷ rows h (from + 3 * (i + 1) + 1) (n - (i + 1))
+      → rows h (from + 3 * i + 1) (n - i) ≡ record_at h (from + 3 * i + 1) ∷ rows h (from + 3 * (i + 1) + 1) (n - (i + 1))
   unfolding rows
   rows_next i k =
       let p : from + 3 * (i + 1) + 1 ≡ from + 3 * i + 1 + 3 = omega arith in
@@ -34,7 +34,7 @@ module _ (h : List ℕ) (from n : ℕ) where
       let q : n - i ≡ 0 = omega arith in
       rw q
 
-pub row-held : (h : List ℕ) (from n k : ℕ) → k < n → Held (recordAt h (from + 3 * k + 1)) ≡ fetched (rows h (from + 1) n) k
+pub row-held : (h : List ℕ) (from n k : ℕ) → k < n → Held (record_at h (from + 3 * k + 1)) ≡ fetched (rows h (from + 1) n) k
 unfolding rows fetched
 row-held h from zero k p = absurd (omega arith)
 row-held h from (suc n) zero p =
@@ -52,7 +52,7 @@ row-not h at (suc n) zero p = absurd (omega arith)
 row-not h at (suc n) (suc k) p = row-not h (at + 3) n k (omega arith)
 
 -- record k of a list of records
-pub row_at : (h : List ℕ) (from n k : ℕ) → k < n → recordAt h (from + 3 * k + 1) ≡ get_or (rows h (from + 1) n) k noRecord
+pub row_at : (h : List ℕ) (from n k : ℕ) → k < n → record_at h (from + 3 * k + 1) ≡ get_or (rows h (from + 1) n) k no_record
 unfolding rows
 row_at h from zero k p = absurd (omega arith)
 row_at h from (suc n) zero p =

@@ -6,7 +6,7 @@ use Rattle.records.specs.declared.Fetched.{Fetched}
 use Rattle.records.specs.declared.Fetched.TheVariants.{Held, Refused}
 use Rattle.records.specs.declared.Heavy.{Heavy}
 use Rattle.records.specs.declared.Heavy.TheVariants.{Day, NoDay}
-use Rattle.records.specs.Records.{noRecord}
+use Rattle.records.specs.Records.{no_record}
 
 -- "Record k: 25, not held."
 unfoldable pub fetched : List Record → ℕ → Fetched
@@ -17,9 +17,9 @@ fetched (r ∷ rs) (suc k) = fetched rs k
 -- day k is held, and its volume is at least v
 pub record IsHeavy (ds : List Record) (v k : ℕ) : Type 0 where
   pub held : k < length ds
-  pub enough : v ≤ (get_or ds k noRecord).volume.0
+  pub enough : v ≤ (get_or ds k no_record).volume.0
 
 -- "Heavy day: 27, exactly if no held day qualifies." The day that is named is held and heavy enough; which one is left free.
 abbrev pub HeavyDay : List Record → ℕ → Heavy → Type 0
-HeavyDay ds v (Day k r) = IsHeavy ds v k × (r ≡ get_or ds k noRecord)
+HeavyDay ds v (Day k r) = IsHeavy ds v k × (r ≡ get_or ds k no_record)
 HeavyDay ds v (NoDay n) = (n ≡ 27) × ((k : ℕ) → IsHeavy ds v k → ⊥)

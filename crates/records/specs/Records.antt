@@ -8,33 +8,33 @@ use Rattle.records.specs.declared.Tally.{Tally}
 use Rattle.records.specs.declared.Periods.{Periods}
 
 -- "a record (date, volume, charge, closing balance)"
-abbrev pub recordOf : ℕ → Tally → Millionths → Record
-recordOf date t closing = record { date = date; volume = t.volume; charge = t.charge; closing = closing }
+abbrev pub record_of : ℕ → Tally → Millionths → Record
+record_of date t closing = record { date = date; volume = t.volume; charge = t.charge; closing = closing }
 
-abbrev pub noRecord : Record
-noRecord = record { date = 0; volume = volume 0; charge = charge 0; closing = money (pos 0) }
+abbrev pub no_record : Record
+no_record = record { date = 0; volume = volume 0; charge = charge 0; closing = money (pos 0) }
 
 -- an open day or month with nothing in it
 abbrev pub nothing : Tally
 nothing = record { volume = volume 0; charge = charge 0 }
 
-abbrev pub noPeriods : Periods
-noPeriods = record { day = nothing; month = nothing }
+abbrev pub no_periods : Periods
+no_periods = record { day = nothing; month = nothing }
 
-abbrev pub dayLimit : ℕ
-dayLimit = 62
+abbrev pub day_limit : ℕ
+day_limit = 62
 
-abbrev pub monthLimit : ℕ
-monthLimit = 120
+abbrev pub month_limit : ℕ
+month_limit = 120
 
 -- the records that are held
 pub record Held : Type 0 where
   pub days : List Record
   pub months : List Record
 
-abbrev pub noneHeld : Held
-noneHeld = record { days = []; months = [] }
+abbrev pub none_held : Held
+none_held = record { days = []; months = [] }
 
 -- a new record in front; "the oldest gives way when full"
-abbrev pub inFront : ℕ → Record → List Record → List Record
-inFront limit r rs = take limit (r ∷ rs)
+abbrev pub in_front : ℕ → Record → List Record → List Record
+in_front limit r rs = take limit (r ∷ rs)

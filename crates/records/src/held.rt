@@ -4,11 +4,11 @@
 ghost use Rattle.std.specs.Prelude.{◌≡◌, ◌∷◌, ◌+◌, ◌-◌, ◌*◌, ◌^◌, ◌≤◌, ◌<◌, min, length, get_or};
 ghost use Rattle.std.proofs.lemmas.List.Edits.{sets};
 ghost use Rattle.units.specs.Money.{money};
-ghost use Rattle.records.specs.Bounds.{recordsGood, heldGood, isFreshHeld};
+ghost use Rattle.records.specs.Bounds.{records_good, held_good, is_fresh_held};
 ghost use Rattle.records.specs.Queries.{fetched, HeavyDay};
 ghost use Rattle.records.specs.Turn.{opened};
-ghost use Rattle.records.specs.Words.{balanceOf, balanceWord, recordFrom, recordAt, dateWord, recordWords, rows, heldFrom, held_of, noWords};
-ghost use Rattle.records.specs.Moves.{pushed, closedWords};
+ghost use Rattle.records.specs.Words.{balance_of, balance_word, record_from, record_at, date_word, record_words, rows, held_from, held_of, no_words};
+ghost use Rattle.records.specs.Moves.{pushed, closed_words};
 
 use crate::{Fetched, Heavy, Periods, Record, Tally};
 use units::{Charge, Hundredths, Millionths};
@@ -29,13 +29,13 @@ const LEAST: i64 = -9_223_372_036_854_775_808;
 
 // No record held.
 pub fn none() -> Words
-    ensures { result ≡ noWords }
+    ensures { result ≡ no_words }
 {
     [0u64; 548]
 }
 
 fn balance_of(w: u64) -> Millionths
-    ensures { result ≡ money (balanceOf w) }
+    ensures { result ≡ money (balance_of w) }
 {
     if w < 9_223_372_036_854_775_808 {
         return Millionths(w as i64);
@@ -44,7 +44,7 @@ fn balance_of(w: u64) -> Millionths
 }
 
 fn balance_word(b: Millionths) -> u64
-    ensures { result ≡ balanceWord b.0 }
+    ensures { result ≡ balance_word b.0 }
 {
     let z = b.0;
     if z < 0 {
@@ -54,14 +54,14 @@ fn balance_word(b: Millionths) -> u64
 }
 
 fn date_word(r: Record) -> u64
-    ensures { result ≡ dateWord r }
+    ensures { result ≡ date_word r }
 {
     (r.volume.0 as u64) * 4_294_967_296 + (r.date as u64)
 }
 
 // The record of three words.
 fn record_from(a: u64, b: u64, c: u64) -> Record
-    ensures { result ≡ recordFrom a b c }
+    ensures { result ≡ record_from a b c }
 {
     Record {
         date: (a % 4_294_967_296) as u32,
@@ -74,7 +74,7 @@ fn record_from(a: u64, b: u64, c: u64) -> Record
 // The record whose words begin at i.
 fn record_at(h: &Words, i: usize) -> Record
     requires { i + 2 < 548 }
-    ensures { result ≡ recordAt h.now i }
+    ensures { result ≡ record_at h.now i }
 {
     record_from(h[i], h[i + 1], h[i + 2])
 }
@@ -83,7 +83,7 @@ fn record_at(h: &Words, i: usize) -> Record
 fn rows_good(h: &Words, from: usize, n: usize, top: Charge, total: Hundredths) -> bool
     requires n_bound { from + 3 * n < 548 }
     requires top_bound { top.0 < 2 ^ 54 }
-    ensures { result ≡ recordsGood top.0 total.0 (rows h.now (from + 1) n) }
+    ensures { result ≡ records_good top.0 total.0 (rows h.now (from + 1) n) }
 {
     let mut i = 0usize;
     while i < n {
@@ -98,7 +98,7 @@ fn rows_good(h: &Words, from: usize, n: usize, top: Charge, total: Hundredths) -
 // Whether the held records keep the bounds, closing balances at most `top`.
 pub fn is_good(h: &Words, top: Charge, total: Hundredths) -> bool
     requires { top.0 < 2 ^ 54 }
-    ensures { result ≡ heldGood top.0 total.0 (held_of h.now) }
+    ensures { result ≡ held_good top.0 total.0 (held_of h.now) }
 {
     let days = h[DAYS];
     if days > DAY_LIMIT as u64 {
@@ -114,7 +114,7 @@ pub fn is_good(h: &Words, top: Charge, total: Hundredths) -> bool
 
 // Whether no record is held.
 pub fn is_fresh(h: &Words) -> bool
-    ensures { result ≡ isFreshHeld (held_of h.now) }
+    ensures { result ≡ is_fresh_held (held_of h.now) }
 {
     (h[DAYS] == 0) & (h[MONTHS] == 0)
 }
@@ -140,7 +140,7 @@ fn least(a: usize, b: usize) -> usize
 // A count and the words of a record, put at `from`.
 fn put(h: &mut Words, from: usize, count: u64, r: Record)
     requires { from + 3 < 548 }
-    ensures { h.new ≡ sets h.old from (count ∷ recordWords r) }
+    ensures { h.new ≡ sets h.old from (count ∷ record_words r) }
 {
     h[from] = count;
     h[from + 1] = date_word(r);
@@ -166,7 +166,7 @@ fn push(h: &mut Words, from: usize, limit: usize, r: Record)
 // Record k of those held behind the count at `from`, or refusal 25.
 fn at(h: &Words, from: usize, k: usize) -> Fetched
     requires { from + 3 * get_or h.now from 0 < 548 }
-    ensures { result ≡ fetched (heldFrom from h.now) k }
+    ensures { result ≡ fetched (held_from from h.now) k }
 {
     if k < h[from] as usize {
         return Fetched::Held(record_at(h, from + 3 * k + 1));
@@ -209,7 +209,7 @@ pub fn heavy(h: &Words, v: Hundredths) -> Heavy
 
 // The day turned from one date to a later one: what is open then, and the records behind it.
 pub fn close(h: &mut Words, p: Periods, from: u32, to: u32, closing: Millionths) -> Periods
-    ensures { (result ≡ opened p from to) × (h.new ≡ closedWords p from to closing h.old) }
+    ensures { (result ≡ opened p from to) × (h.new ≡ closed_words p from to closing h.old) }
 {
     push(h, DAYS, DAY_LIMIT, p.day.closed(from, closing));
     let mut next = p;

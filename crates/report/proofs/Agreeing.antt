@@ -11,7 +11,7 @@ use borrow.Author.Tests.{eq-eqb, ne_eqb, eqb-true, eqb-false}
 use Rattle.units.specs.declared.Charge.{Charge}
 use Rattle.units.specs.declared.Millionths.{Millionths}
 use Rattle.units.proofs.Integers.{up, dn, minus, lt-true, lt-false}
-use Rattle.report.specs.Closing.{isNumber, agrees}
+use Rattle.report.specs.Closing.{is_number, agrees}
 use Rattle.text.proofs.Digits.{cases}
 
 -- two tests of one fact
@@ -21,7 +21,7 @@ same_test m n p q f g =
     (λ t. eq-eqb m n (g (eqb-true p q t)) ∙ sym t)
     (λ t. ne_eqb m n (λ e. eqb-false p q t (f e)) ∙ sym t)
 
-number_is : (z : ℤ) (s : ℕ) → isNumber z s ≡ eqb (up z) (s + dn z)
+number_is : (z : ℤ) (s : ℕ) → is_number z s ≡ eqb (up z) (s + dn z)
 number_is (pos m) s = rw add-zero
 number_is (negsuc m) s = sym (ne_eqb 0 (s + suc m) (λ e. omega arith))
 

@@ -10,20 +10,20 @@ use lib.Seq.{take-suc, take_all}
 use Rattle.text.specs.Hex.{hexadecimal}
 use Rattle.account.specs.declared.Codes.{Codes}
 use Rattle.account.specs.Codes.{told}
-use Rattle.report.specs.Lines.{codesText}
+use Rattle.report.specs.Lines.{codes_text}
 use Rattle.text.proofs.Digits.{cases}
 use borrow.Author.Tests.{ltb-true, ltb-false}
 
-codes-behind : (v : List ℕ) (x : ℕ) → codesText (v ++ (x ∷ [])) ≡ codesText v ++ (32 ∷ hexadecimal x)
-unfolding codesText
+codes-behind : (v : List ℕ) (x : ℕ) → codes_text (v ++ (x ∷ [])) ≡ codes_text v ++ (32 ∷ hexadecimal x)
+unfolding codes_text
 codes-behind [] x = rw append-nil
 codes-behind (y ∷ v) x = rw (codes-behind v x) (simp append_assoc)
 
-pub codes-none : codesText [] ≡ []
-unfolding codesText
+pub codes-none : codes_text [] ≡ []
+unfolding codes_text
 codes-none = refl
 
-pub codes-more : (v : List ℕ) (k : ℕ) → k < length v → codesText (take (k + 1) v) ≡ codesText (take k v) ++ (32 ∷ hexadecimal (get_or v k 0))
+pub codes-more : (v : List ℕ) (k : ℕ) → k < length v → codes_text (take (k + 1) v) ≡ codes_text (take k v) ++ (32 ∷ hexadecimal (get_or v k 0))
 codes-more v k h = rw (add-one, take-suc v k 0, codes-behind)
 
 -- the first eight of eight are all that a count of eight or more asks for

@@ -7,16 +7,16 @@ use Rattle.text.specs.Word.{letters}
 use Rattle.place.specs.Value.{integer}
 
 -- whether an integer is the natural number n
-abbrev pub isNumber : ℤ → ℕ → Bool
-isNumber (pos m) n = eqb m n
-isNumber (negsuc m) n = false
+abbrev pub is_number : ℤ → ℕ → Bool
+is_number (pos m) n = eqb m n
+is_number (negsuc m) n = false
 
 -- recharged minus balance is the ledger sum
 unfoldable pub agrees : Charge → Millionths → Charge → Bool
-agrees recharged balance ledger = isNumber (pos recharged.0 -ℤ balance.0) ledger.0
+agrees recharged balance ledger = is_number (pos recharged.0 -ℤ balance.0) ledger.0
 
-unfoldable pub closingLine : Charge → Millionths → Charge → List ℕ
-closingLine r b s =
+unfoldable pub closing_line : Charge → Millionths → Charge → List ℕ
+closing_line r b s =
     letters "recharged " ++ (decimal r.0
     ++ (letters " balance " ++ (integer b.0
     ++ (letters " ledger " ++ (decimal s.0

@@ -4,8 +4,8 @@ use Rattle.text.specs.Decimal.{decimal}
 use Rattle.text.specs.Word.{letters}
 
 -- what is wrong, by the number of the fault
-unfoldable pub faultText : ℕ → List ℕ
-faultText k =
+unfoldable pub fault_text : ℕ → List ℕ
+fault_text k =
     cond (eqb k 1)
     (letters "unknown word; the words are pulse, recharge, plan, alarms, command, key, tick, step, display, day, month, heavy, show")
     (cond (eqb k 2) (letters "wrong number of words")
@@ -16,8 +16,8 @@ faultText k =
     (letters "not understood"))))))
 
 -- a colon and what is wrong
-unfoldable pub faultLine : ℕ → List ℕ
-faultLine k = letters ": " ++ (faultText k ++ letters "\n")
+unfoldable pub fault_line : ℕ → List ℕ
+fault_line k = letters ": " ++ (fault_text k ++ letters "\n")
 
-unfoldable pub errorLine : ℕ → ℕ → List ℕ
-errorLine line fault = letters "error " ++ (decimal line ++ faultLine fault)
+unfoldable pub error_line : ℕ → ℕ → List ℕ
+error_line line fault = letters "error " ++ (decimal line ++ fault_line fault)

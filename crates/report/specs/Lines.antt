@@ -19,39 +19,39 @@ use Rattle.records.specs.declared.Fetched.TheVariants.{Held, Refused as NotHeld}
 use Rattle.records.specs.declared.Heavy.{Heavy}
 use Rattle.records.specs.declared.Heavy.TheVariants.{Day, NoDay}
 
-unfoldable pub refusedLine : ℕ → List ℕ
-refusedLine n = letters "refused " ++ (decimal n ++ letters "\n")
+unfoldable pub refused_line : ℕ → List ℕ
+refused_line n = letters "refused " ++ (decimal n ++ letters "\n")
 
 -- codes in capital hexadecimal, each with a space before it
-unfoldable pub codesText : List ℕ → List ℕ
-codesText [] = []
-codesText (c ∷ cs) = letters " " ++ (hexadecimal c ++ codesText cs)
+unfoldable pub codes_text : List ℕ → List ℕ
+codes_text [] = []
+codes_text (c ∷ cs) = letters " " ++ (hexadecimal c ++ codes_text cs)
 
 -- `ok` and the codes in their order
-unfoldable pub okLine : Codes → List ℕ
-okLine k = letters "ok" ++ (codesText (told k) ++ letters "\n")
+unfoldable pub ok_line : Codes → List ℕ
+ok_line k = letters "ok" ++ (codes_text (told k) ++ letters "\n")
 
-abbrev pub answerLine : Answer → Codes → List ℕ
-answerLine Accepted k = okLine k
-answerLine (Refused n) k = refusedLine n
+abbrev pub answer_line : Answer → Codes → List ℕ
+answer_line Accepted k = ok_line k
+answer_line (Refused n) k = refused_line n
 
 -- the line of a call
-unfoldable pub callLine : Done → List ℕ
-callLine d = answerLine d.answer d.codes
+unfoldable pub call_line : Done → List ℕ
+call_line d = answer_line d.answer d.codes
 
 -- the line of the step query: the step's number and its price in ten-thousandths of a yuan
-abbrev pub stepLine : Stepped → List ℕ
-stepLine (At s) = decimal s.number ++ (letters " " ++ (decimal s.price.0 ++ letters "\n"))
-stepLine (NoStep n) = refusedLine n
+abbrev pub step_line : Stepped → List ℕ
+step_line (At s) = decimal s.number ++ (letters " " ++ (decimal s.price.0 ++ letters "\n"))
+step_line (NoStep n) = refused_line n
 
 -- the line of the display query: ten-thousandths of a yuan
-abbrev pub displayLine : Displayed → List ℕ
-displayLine (Shows s) = integer s.0 ++ letters "\n"
-displayLine (NotShown n) = refusedLine n
+abbrev pub display_line : Displayed → List ℕ
+display_line (Shows s) = integer s.0 ++ letters "\n"
+display_line (NotShown n) = refused_line n
 
 -- a day or month record: date, volume in hundredths, charge and closing balance in millionths of a yuan
-unfoldable pub recordText : Record → List ℕ
-recordText r =
+unfoldable pub record_text : Record → List ℕ
+record_text r =
     decimal r.date
     ++ (letters " " ++ (decimal r.volume.0
     ++ (letters " " ++ (decimal r.charge.0
@@ -59,11 +59,11 @@ recordText r =
     ++ letters "\n"))))))
 
 -- the line of a day or month query
-abbrev pub recordLine : Fetched → List ℕ
-recordLine (Held r) = recordText r
-recordLine (NotHeld n) = refusedLine n
+abbrev pub record_line : Fetched → List ℕ
+record_line (Held r) = record_text r
+record_line (NotHeld n) = refused_line n
 
 -- the line of the heavy-day query: the day's number in front
-abbrev pub heavyLine : Heavy → List ℕ
-heavyLine (Day k r) = decimal k ++ (letters " " ++ recordText r)
-heavyLine (NoDay n) = refusedLine n
+abbrev pub heavy_line : Heavy → List ℕ
+heavy_line (Day k r) = decimal k ++ (letters " " ++ record_text r)
+heavy_line (NoDay n) = refused_line n

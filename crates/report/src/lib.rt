@@ -4,9 +4,9 @@
 ghost use Rattle.std.specs.Prelude.{◌≡◌, ◌+◌, ◌≤◌, min, eqb, length};
 ghost use Rattle.text.specs.Written.{Written};
 ghost use Rattle.place.specs.Place.{Placed};
-ghost use Rattle.report.specs.Lines.{refusedLine, okLine, callLine, stepLine, displayLine, recordText, recordLine, heavyLine};
-ghost use Rattle.report.specs.Errors.{faultLine, errorLine};
-ghost use Rattle.report.specs.Closing.{agrees, closingLine};
+ghost use Rattle.report.specs.Lines.{refused_line, ok_line, call_line, step_line, display_line, record_text, record_line, heavy_line};
+ghost use Rattle.report.specs.Errors.{fault_line, error_line};
+ghost use Rattle.report.specs.Closing.{agrees, closing_line};
 
 use account::Codes;
 use answer::Answer;
@@ -19,7 +19,7 @@ use units::{Charge, Millionths};
 
 fn refused(k: u8, out: &mut [u8]) -> usize
     requires { 320 ≤ length out.old }
-    ensures { Written (refusedLine k) 320 out.old result out.new }
+    ensures { Written (refused_line k) 320 out.old result out.new }
 {
     let n = place::word(b"refused ", 0, out);
     place::number(Value::Whole(k as u64), b'\n', n, out)
@@ -36,7 +36,7 @@ fn count_of(codes: Codes) -> usize
 // `ok` and the codes.
 fn ok_line(codes: Codes, out: &mut [u8]) -> usize
     requires { 320 ≤ length out.old }
-    ensures { Written (okLine codes) 320 out.old result out.new }
+    ensures { Written (ok_line codes) 320 out.old result out.new }
 {
     let n = count_of(codes);
     let mut at = place::word(b"ok", 0, out);
@@ -51,7 +51,7 @@ fn ok_line(codes: Codes, out: &mut [u8]) -> usize
 // The line of a call.
 pub fn call_line(d: Done, out: &mut [u8]) -> usize
     requires { 320 ≤ length out.old }
-    ensures { Written (callLine d) 320 out.old result out.new }
+    ensures { Written (call_line d) 320 out.old result out.new }
 {
     let a = d.answer;
     if let Answer::Refused(k) = a {
@@ -63,7 +63,7 @@ pub fn call_line(d: Done, out: &mut [u8]) -> usize
 // The line of the step query.
 pub fn step_line(s: Stepped, out: &mut [u8]) -> usize
     requires { 320 ≤ length out.old }
-    ensures { Written (stepLine s) 320 out.old result out.new }
+    ensures { Written (step_line s) 320 out.old result out.new }
 {
     match s {
         Stepped::Refused(k) => refused(k, out),
@@ -77,7 +77,7 @@ pub fn step_line(s: Stepped, out: &mut [u8]) -> usize
 // The line of the display query.
 pub fn display_line(d: Displayed, out: &mut [u8]) -> usize
     requires { 320 ≤ length out.old }
-    ensures { Written (displayLine d) 320 out.old result out.new }
+    ensures { Written (display_line d) 320 out.old result out.new }
 {
     match d {
         Displayed::Refused(k) => refused(k, out),
@@ -88,7 +88,7 @@ pub fn display_line(d: Displayed, out: &mut [u8]) -> usize
 // A record's numbers at a place.
 fn record_at(r: Record, at: usize, out: &mut [u8]) -> usize
     requires { at + 120 ≤ length out.old }
-    ensures { Placed at (recordText r) 120 out.old result out.new }
+    ensures { Placed at (record_text r) 120 out.old result out.new }
 {
     let b = r.closing;
     let d = place::number(Value::Whole(r.date as u64), b' ', at, out);
@@ -100,7 +100,7 @@ fn record_at(r: Record, at: usize, out: &mut [u8]) -> usize
 // The line of a day or month query.
 pub fn record_line(f: Fetched, out: &mut [u8]) -> usize
     requires { 320 ≤ length out.old }
-    ensures { Written (recordLine f) 320 out.old result out.new }
+    ensures { Written (record_line f) 320 out.old result out.new }
 {
     match f {
         Fetched::Refused(k) => refused(k, out),
@@ -111,7 +111,7 @@ pub fn record_line(f: Fetched, out: &mut [u8]) -> usize
 // The line of the heavy-day query.
 pub fn heavy_line(h: Heavy, out: &mut [u8]) -> usize
     requires { 320 ≤ length out.old }
-    ensures { Written (heavyLine h) 320 out.old result out.new }
+    ensures { Written (heavy_line h) 320 out.old result out.new }
 {
     match h {
         Heavy::NoDay(k) => refused(k, out),
@@ -125,7 +125,7 @@ pub fn heavy_line(h: Heavy, out: &mut [u8]) -> usize
 // What is wrong with a line, at a place.
 fn fault_at(fault: u8, at: usize, out: &mut [u8]) -> usize
     requires { at + 120 ≤ length out.old }
-    ensures { Placed at (faultLine fault) 120 out.old result out.new }
+    ensures { Placed at (fault_line fault) 120 out.old result out.new }
 {
     match fault {
         1 => place::word(
@@ -145,7 +145,7 @@ fn fault_at(fault: u8, at: usize, out: &mut [u8]) -> usize
 // The line of a journal line that is no call and no query, with its number.
 pub fn error_line(line: u64, fault: u8, out: &mut [u8]) -> usize
     requires { 320 ≤ length out.old }
-    ensures { Written (errorLine line fault) 320 out.old result out.new }
+    ensures { Written (error_line line fault) 320 out.old result out.new }
 {
     let n = place::item(b"error ", Value::Whole(line), 0, out);
     fault_at(fault, n, out)
@@ -175,7 +175,7 @@ fn agree(recharged: Charge, balance: Millionths, ledger: Charge) -> bool
 // The closing line.
 pub fn closing_line(recharged: Charge, balance: Millionths, ledger: Charge, out: &mut [u8]) -> usize
     requires { 320 ≤ length out.old }
-    ensures { Written (closingLine recharged balance ledger) 320 out.old result out.new }
+    ensures { Written (closing_line recharged balance ledger) 320 out.old result out.new }
 {
     let n = place::item(b"recharged ", Value::Whole(recharged.0), 0, out);
     let b = place::item(b" balance ", Value::Balance(balance), n, out);

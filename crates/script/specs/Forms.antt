@@ -53,9 +53,9 @@ entries =
     ∷ valves)))
 
 -- the form that a table has for a word
-unfoldable pub formIn : List Entry → List ℕ → Form
-formIn [] w = record { kind = Unknown; known = false; words = 0; numbers = 0 }
-formIn (e ∷ es) w = cond (same w e.word) e.form (formIn es w)
+unfoldable pub form_in : List Entry → List ℕ → Form
+form_in [] w = record { kind = Unknown; known = false; words = 0; numbers = 0 }
+form_in (e ∷ es) w = cond (same w e.word) e.form (form_in es w)
 
-unfoldable pub formOf : List ℕ → Form
-formOf w = formIn entries w
+unfoldable pub form_of : List ℕ → Form
+form_of w = form_in entries w

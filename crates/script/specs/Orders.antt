@@ -1,7 +1,7 @@
 -- A journal's line: what it says, and the record that a plan brings.
 use Rattle.std.specs.Prelude.{cond, List, [], ◌∷◌, ℕ, leb, length}
 use Rattle.words.specs.Words.{content, word_at}
-use Rattle.words.specs.Numbers.{wideAt, narrowAt}
+use Rattle.words.specs.Numbers.{wide_at, narrow_at}
 use Rattle.words.specs.Hex.{bytes_of}
 use Rattle.units.specs.Volume.{volume, price}
 use Rattle.calendar.specs.declared.Stamp.{Stamp}
@@ -14,61 +14,61 @@ use Rattle.script.specs.declared.Order.{Order}
 use Rattle.script.specs.declared.Order.TheVariants.{Nothing, Call, Query, Show, Wrong}
 use Rattle.script.specs.declared.Query.TheVariants.{Step, Display, Day, Month, Heavy}
 use Rattle.meter.specs.declared.Call.TheVariants as call
-use Rattle.script.specs.Forms.{formOf}
-use Rattle.script.specs.Faults.{verdictOf}
+use Rattle.script.specs.Forms.{form_of}
+use Rattle.script.specs.Faults.{verdict_of}
 
 -- DATE SECOND: the first two numbers of a call
-unfoldable pub stampIn : List ℕ → Stamp
-stampIn s = record { date = narrowAt s 1; second = narrowAt s 2 }
+unfoldable pub stamp_in : List ℕ → Stamp
+stamp_in s = record { date = narrow_at s 1; second = narrow_at s 2 }
 
 -- what a content without a fault says
-unfoldable pub saidBy : Kind → List ℕ → Order
-saidBy kind.Pulse s = Call (call.Pulses (record { stamp = stampIn s; count = volume (narrowAt s 3) })) 0
-saidBy kind.Recharge s = Call (call.Recharge (record { stamp = stampIn s; amount = price (wideAt s 3); serial = narrowAt s 4 })) 0
-saidBy kind.Plan s = Call (call.Load (record { stamp = stampIn s; slot = narrowAt s 3 })) (length (bytes_of (word_at s 4)))
-saidBy kind.Alarms s = Call (call.Alarms (record { stamp = stampIn s; one = narrowAt s 3; two = narrowAt s 4 })) 0
-saidBy kind.Command s = Call (call.Command (record { stamp = stampIn s; code = narrowAt s 3 })) 0
-saidBy kind.Key s = Call (call.Key (record { stamp = stampIn s })) 0
-saidBy kind.Tick s = Call (call.Tick (record { stamp = stampIn s })) 0
-saidBy kind.Step s = Query Step
-saidBy kind.Display s = Query Display
-saidBy kind.Day s = Query (Day (wideAt s 1))
-saidBy kind.Month s = Query (Month (wideAt s 1))
-saidBy kind.Heavy s = Query (Heavy (volume (narrowAt s 1)))
-saidBy kind.Show s = Show
-saidBy kind.Unknown s = Wrong 1
+unfoldable pub said_by : Kind → List ℕ → Order
+said_by kind.Pulse s = Call (call.Pulses (record { stamp = stamp_in s; count = volume (narrow_at s 3) })) 0
+said_by kind.Recharge s = Call (call.Recharge (record { stamp = stamp_in s; amount = price (wide_at s 3); serial = narrow_at s 4 })) 0
+said_by kind.Plan s = Call (call.Load (record { stamp = stamp_in s; slot = narrow_at s 3 })) (length (bytes_of (word_at s 4)))
+said_by kind.Alarms s = Call (call.Alarms (record { stamp = stamp_in s; one = narrow_at s 3; two = narrow_at s 4 })) 0
+said_by kind.Command s = Call (call.Command (record { stamp = stamp_in s; code = narrow_at s 3 })) 0
+said_by kind.Key s = Call (call.Key (record { stamp = stamp_in s })) 0
+said_by kind.Tick s = Call (call.Tick (record { stamp = stamp_in s })) 0
+said_by kind.Step s = Query Step
+said_by kind.Display s = Query Display
+said_by kind.Day s = Query (Day (wide_at s 1))
+said_by kind.Month s = Query (Month (wide_at s 1))
+said_by kind.Heavy s = Query (Heavy (volume (narrow_at s 1)))
+said_by kind.Show s = Show
+said_by kind.Unknown s = Wrong 1
 
 -- the record of a plan, the word behind its numbers; any other line has none
-unfoldable pub recordBy : Form → List ℕ → List ℕ
-recordBy f s = cond (leb f.words f.numbers) [] (bytes_of (word_at s f.words))
+unfoldable pub record_by : Form → List ℕ → List ℕ
+record_by f s = cond (leb f.words f.numbers) [] (bytes_of (word_at s f.words))
 
 abbrev pub order_by : Verdict → Form → List ℕ → Order
-order_by Sound f s = saidBy f.kind s
+order_by Sound f s = said_by f.kind s
 order_by (Fault n) f s = Wrong n
 
-abbrev pub bytesBy : Verdict → Form → List ℕ → List ℕ
-bytesBy Sound f s = recordBy f s
-bytesBy (Fault n) f s = []
+abbrev pub bytes_by : Verdict → Form → List ℕ → List ℕ
+bytes_by Sound f s = record_by f s
+bytes_by (Fault n) f s = []
 
 -- the same of a content: an empty one says nothing
-abbrev pub firstForm : List ℕ → Form
-firstForm s = formOf (word_at s 0)
+abbrev pub first_form : List ℕ → Form
+first_form s = form_of (word_at s 0)
 
-abbrev pub verdictIn : List ℕ → Verdict
-verdictIn s = verdictOf (firstForm s) s
+abbrev pub verdict_in : List ℕ → Verdict
+verdict_in s = verdict_of (first_form s) s
 
 unfoldable pub order_in : List ℕ → Order
 order_in [] = Nothing
-order_in (x ∷ l) = order_by (verdictIn (x ∷ l)) (firstForm (x ∷ l)) (x ∷ l)
+order_in (x ∷ l) = order_by (verdict_in (x ∷ l)) (first_form (x ∷ l)) (x ∷ l)
 
-unfoldable pub recordIn : List ℕ → List ℕ
-recordIn [] = []
-recordIn (x ∷ l) = bytesBy (verdictIn (x ∷ l)) (firstForm (x ∷ l)) (x ∷ l)
+unfoldable pub record_in : List ℕ → List ℕ
+record_in [] = []
+record_in (x ∷ l) = bytes_by (verdict_in (x ∷ l)) (first_form (x ∷ l)) (x ∷ l)
 
 -- what a line says
 unfoldable pub order_of : List ℕ → Order
 order_of line = order_in (content line)
 
 -- the record in it
-unfoldable pub recordOf : List ℕ → List ℕ
-recordOf line = recordIn (content line)
+unfoldable pub record_of : List ℕ → List ℕ
+record_of line = record_in (content line)

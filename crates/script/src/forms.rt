@@ -1,6 +1,6 @@
 // The table of the words, an entry for each: what it asks for, and how its line is made.
 ghost use Rattle.std.specs.Prelude.{◌≡◌};
-ghost use Rattle.script.specs.Forms.{plain, formIn, valves, questions, numbered, formOf};
+ghost use Rattle.script.specs.Forms.{plain, form_in, valves, questions, numbered, form_of};
 
 use crate::{Form, Kind};
 
@@ -18,7 +18,7 @@ fn plain(kind: Kind, numbers: usize) -> Form
 
 // The questions by number.
 fn numbered_form(w: &[u8]) -> Form
-    ensures { result ≡ formIn numbered w.now }
+    ensures { result ≡ form_in numbered w.now }
 {
     if words::same(w, b"day") {
         return plain(Kind::Day, 1);
@@ -39,7 +39,7 @@ fn numbered_form(w: &[u8]) -> Form
 
 // The other questions.
 fn question_form(w: &[u8]) -> Form
-    ensures { result ≡ formIn questions w.now }
+    ensures { result ≡ form_in questions w.now }
 {
     if words::same(w, b"step") {
         return plain(Kind::Step, 0);
@@ -55,7 +55,7 @@ fn question_form(w: &[u8]) -> Form
 
 // The calls on the valve and the clock.
 fn valve_form(w: &[u8]) -> Form
-    ensures { result ≡ formIn valves w.now }
+    ensures { result ≡ form_in valves w.now }
 {
     if words::same(w, b"command") {
         return plain(Kind::Command, 3);
@@ -71,7 +71,7 @@ fn valve_form(w: &[u8]) -> Form
 
 // The other calls, and behind them all the rest.
 pub fn form_of(w: &[u8]) -> Form
-    ensures { result ≡ formOf w.now }
+    ensures { result ≡ form_of w.now }
 {
     if words::same(w, b"pulse") {
         return plain(Kind::Pulse, 3);

@@ -2,9 +2,9 @@
 mod forms; // forms.rt: the table of the words
 
 ghost use Rattle.std.specs.Prelude.{◌≡◌, ◌*◌, ◌≤◌, length};
-ghost use Rattle.text.specs.Decimal.{startingWith};
-ghost use Rattle.script.specs.Faults.{need, verdictOf};
-ghost use Rattle.script.specs.Orders.{stampIn, saidBy, recordBy, order_of, recordOf};
+ghost use Rattle.text.specs.Decimal.{starting_with};
+ghost use Rattle.script.specs.Faults.{need, verdict_of};
+ghost use Rattle.script.specs.Orders.{stamp_in, said_by, record_by, order_of, record_of};
 
 use calendar::Stamp;
 use meter::{Alarms, Call, Command, Key, Load, Pulses, Recharge, Tick};
@@ -78,7 +78,7 @@ fn need(holds: bool, fault: u8, rest: Verdict) -> Verdict
 
 // The first fault of a content; the tests stand in reverse.
 fn verdict_of(f: Form, s: &[u8]) -> Verdict
-    ensures { result ≡ verdictOf f s.now }
+    ensures { result ≡ verdict_of f s.now }
 {
     let hex = words::is_hex(words::word(s, f.words));
     let v = need((f.words <= f.numbers) | hex, 4, Verdict::Sound);
@@ -89,7 +89,7 @@ fn verdict_of(f: Form, s: &[u8]) -> Verdict
 }
 
 fn stamp_in(s: &[u8]) -> Stamp
-    ensures { result ≡ stampIn s.now }
+    ensures { result ≡ stamp_in s.now }
 {
     Stamp {
         date: words::narrow_at(s, 1),
@@ -99,7 +99,7 @@ fn stamp_in(s: &[u8]) -> Stamp
 
 // What a content says that is a call with more than its stamp.
 fn pulses_in(s: &[u8]) -> Order
-    ensures { result ≡ saidBy Kind.Pulse s.now }
+    ensures { result ≡ said_by Kind.Pulse s.now }
 {
     Order::Call(
         Call::Pulses(Pulses {
@@ -111,7 +111,7 @@ fn pulses_in(s: &[u8]) -> Order
 }
 
 fn recharge_in(s: &[u8]) -> Order
-    ensures { result ≡ saidBy Kind.Recharge s.now }
+    ensures { result ≡ said_by Kind.Recharge s.now }
 {
     Order::Call(
         Call::Recharge(Recharge {
@@ -124,7 +124,7 @@ fn recharge_in(s: &[u8]) -> Order
 }
 
 fn alarms_in(s: &[u8]) -> Order
-    ensures { result ≡ saidBy Kind.Alarms s.now }
+    ensures { result ≡ said_by Kind.Alarms s.now }
 {
     Order::Call(
         Call::Alarms(Alarms {
@@ -137,7 +137,7 @@ fn alarms_in(s: &[u8]) -> Order
 }
 
 fn command_in(s: &[u8]) -> Order
-    ensures { result ≡ saidBy Kind.Command s.now }
+    ensures { result ≡ said_by Kind.Command s.now }
 {
     Order::Call(
         Call::Command(Command {
@@ -149,7 +149,7 @@ fn command_in(s: &[u8]) -> Order
 }
 
 fn load_in(s: &[u8]) -> Order
-    ensures { result ≡ saidBy Kind.Plan s.now }
+    ensures { result ≡ said_by Kind.Plan s.now }
 {
     let bytes = words::word(s, 4).len() / 2;
     Order::Call(
@@ -163,7 +163,7 @@ fn load_in(s: &[u8]) -> Order
 
 // What a content without a fault says.
 fn said(kind: Kind, s: &[u8]) -> Order
-    ensures { result ≡ saidBy kind s.now }
+    ensures { result ≡ said_by kind s.now }
 {
     match kind {
         Kind::Pulse => pulses_in(s),
@@ -186,7 +186,7 @@ fn said(kind: Kind, s: &[u8]) -> Order
 // The record of a plan, put at the start of the buffer.
 fn put_record(f: Form, s: &[u8], room: &mut [u8])
     requires { length s.now ≤ 2 * length room.old }
-    ensures { room.new ≡ startingWith (recordBy f s.now) room.old }
+    ensures { room.new ≡ starting_with (record_by f s.now) room.old }
 {
     if f.words <= f.numbers {
         return;
@@ -197,7 +197,7 @@ fn put_record(f: Form, s: &[u8], room: &mut [u8])
 // WHAT A LINE SAYS; the record of a plan stands then at the start of the buffer.
 pub fn parse(line: &[u8], room: &mut [u8]) -> Order
     requires { length line.now ≤ 2 * length room.old }
-    ensures { (result ≡ order_of line.now) × (room.new ≡ startingWith (recordOf line.now) room.old) }
+    ensures { (result ≡ order_of line.now) × (room.new ≡ starting_with (record_of line.now) room.old) }
 {
     let s = words::content(line);
     if s.len() == 0 {

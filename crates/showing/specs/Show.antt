@@ -9,32 +9,32 @@ use Rattle.slots.specs.declared.Stepped.{Stepped}
 use Rattle.slots.specs.declared.Stepped.TheVariants.{At, Refused}
 use Rattle.records.specs.declared.Tally.{Tally}
 use Rattle.state.specs.State.{State}
-use Rattle.query.specs.Queries.{stepAnswer}
+use Rattle.query.specs.Queries.{step_answer}
 
 -- millionths of a yuan, with a minus sign where they are below 0
-unfoldable pub balanceShown : ℤ → List ℕ
-balanceShown b =
+unfoldable pub balance_shown : ℤ → List ℕ
+balance_shown b =
     letters "balance " ++ (cond (lt_z b (pos 0)) (letters "-") (letters "") ++ (fixed 6 (nat_abs b) ++ letters " yuan\n"))
 
 -- hundredths of a cubic metre
-unfoldable pub usageShown : ℕ → List ℕ
-usageShown v = letters "usage " ++ (fixed 2 v ++ letters " m3 in this cycle\n")
+unfoldable pub usage_shown : ℕ → List ℕ
+usage_shown v = letters "usage " ++ (fixed 2 v ++ letters " m3 in this cycle\n")
 
 -- the answer to the step query; refusal 24 is that no plan is in force, and refusal 0 that the meter is out of its bounds
-unfoldable pub stepShown : Stepped → List ℕ
-stepShown (At s) =
+unfoldable pub step_shown : Stepped → List ℕ
+step_shown (At s) =
     letters "step " ++ (decimal s.number ++ (letters " at " ++ (fixed 4 s.price.0 ++ letters " yuan a m3\n")))
-stepShown (Refused n) =
+step_shown (Refused n) =
     cond (eqb n 24) (letters "step none, no plan in force\n") (letters "step refused " ++ (decimal n ++ letters "\n"))
 
-unfoldable pub valveShown : Valve → List ℕ
-valveShown v =
+unfoldable pub valve_shown : Valve → List ℕ
+valve_shown v =
     cond v.opened (letters "valve open\n") (letters "valve closed\n")
     ++ cond v.allow (letters "mark allow\n") (letters "mark forbid\n")
 
 -- the clock's date, 0 before the first accepted call, with the open day's volume and charge
-unfoldable pub dayShown : ℕ → Tally → List ℕ
-dayShown date t =
+unfoldable pub day_shown : ℕ → Tally → List ℕ
+day_shown date t =
     cond (eqb date 0)
     (letters "open day none, no accepted call yet\n")
     (letters "open day " ++ (decimal date
@@ -42,10 +42,10 @@ dayShown date t =
     ++ (letters " m3, " ++ (fixed 6 t.charge.0
     ++ letters " yuan\n"))))))
 
-unfoldable pub showLines : State → List ℕ
-showLines m =
-    balanceShown m.account.balance.0
-    ++ (usageShown m.slots.usage.0
-    ++ (stepShown (stepAnswer m)
-    ++ (valveShown m.valve
-    ++ dayShown m.clock.date m.periods.day)))
+unfoldable pub show_lines : State → List ℕ
+show_lines m =
+    balance_shown m.account.balance.0
+    ++ (usage_shown m.slots.usage.0
+    ++ (step_shown (step_answer m)
+    ++ (valve_shown m.valve
+    ++ day_shown m.clock.date m.periods.day)))

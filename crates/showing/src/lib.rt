@@ -4,7 +4,7 @@ ghost use Rattle.std.specs.Prelude.{◌+◌, ◌≤◌, length};
 ghost use Rattle.text.specs.Written.{Written};
 ghost use Rattle.place.specs.Place.{Placed};
 ghost use Rattle.state.specs.State.{state_of};
-ghost use Rattle.showing.specs.Show.{balanceShown, usageShown, stepShown, valveShown, dayShown, showLines};
+ghost use Rattle.showing.specs.Show.{balance_shown, usage_shown, step_shown, valve_shown, day_shown, show_lines};
 
 use account::Valve;
 use place::Value;
@@ -17,7 +17,7 @@ use units::{Charge, Hundredths, Millionths};
 // The lines that show a meter, each at a place: the balance.
 fn balance_at(b: Millionths, at: usize, out: &mut [u8]) -> usize
     requires { at + 42 ≤ length out.old }
-    ensures { Placed at (balanceShown b.0) 42 out.old result out.new }
+    ensures { Placed at (balance_shown b.0) 42 out.old result out.new }
 {
     let w = place::word(b"balance ", at, out);
     let m = place::either(b.negative(), b"-", b"", w, out);
@@ -28,7 +28,7 @@ fn balance_at(b: Millionths, at: usize, out: &mut [u8]) -> usize
 // The usage.
 fn usage_at(v: Hundredths, at: usize, out: &mut [u8]) -> usize
     requires { at + 51 ≤ length out.old }
-    ensures { Placed at (usageShown v.0) 51 out.old result out.new }
+    ensures { Placed at (usage_shown v.0) 51 out.old result out.new }
 {
     let n = place::item(b"usage ", Value::Volume(v), at, out);
     place::word(b" m3 in this cycle\n", n, out)
@@ -37,7 +37,7 @@ fn usage_at(v: Hundredths, at: usize, out: &mut [u8]) -> usize
 // No step: refusal 24 is that no plan is in force.
 fn unstepped_at(k: u8, at: usize, out: &mut [u8]) -> usize
     requires { at + 74 ≤ length out.old }
-    ensures { Placed at (stepShown (Stepped.Refused k)) 74 out.old result out.new }
+    ensures { Placed at (step_shown (Stepped.Refused k)) 74 out.old result out.new }
 {
     if k == 24 {
         return place::word(b"step none, no plan in force\n", at, out);
@@ -49,7 +49,7 @@ fn unstepped_at(k: u8, at: usize, out: &mut [u8]) -> usize
 // The step.
 fn step_at(s: Stepped, at: usize, out: &mut [u8]) -> usize
     requires { at + 74 ≤ length out.old }
-    ensures { Placed at (stepShown s) 74 out.old result out.new }
+    ensures { Placed at (step_shown s) 74 out.old result out.new }
 {
     match s {
         Stepped::Refused(k) => unstepped_at(k, at, out),
@@ -65,7 +65,7 @@ fn step_at(s: Stepped, at: usize, out: &mut [u8]) -> usize
 // The valve and the mark, a line each.
 fn valve_at(v: Valve, at: usize, out: &mut [u8]) -> usize
     requires { at + 47 ≤ length out.old }
-    ensures { Placed at (valveShown v) 47 out.old result out.new }
+    ensures { Placed at (valve_shown v) 47 out.old result out.new }
 {
     let n = place::either(v.opened, b"valve open\n", b"valve closed\n", at, out);
     place::either(v.allow, b"mark allow\n", b"mark forbid\n", n, out)
@@ -74,7 +74,7 @@ fn valve_at(v: Valve, at: usize, out: &mut [u8]) -> usize
 // The open day, of the clock's date.
 fn day_at(date: u32, t: Tally, at: usize, out: &mut [u8]) -> usize
     requires { at + 103 ≤ length out.old }
-    ensures { Placed at (dayShown date t) 103 out.old result out.new }
+    ensures { Placed at (day_shown date t) 103 out.old result out.new }
 {
     if date == 0 {
         return place::word(b"open day none, no accepted call yet\n", at, out);
@@ -90,7 +90,7 @@ fn day_at(date: u32, t: Tally, at: usize, out: &mut [u8]) -> usize
 // A meter in plain words and units.
 pub fn show(r: Registers, words: &Words, out: &mut [u8]) -> usize
     requires { 320 ≤ length out.old }
-    ensures { Written (showLines (state_of r words.now)) 320 out.old result out.new }
+    ensures { Written (show_lines (state_of r words.now)) 320 out.old result out.new }
 {
     let step = query::step(r, words);
     let b = balance_at(r.account.balance, 0, out);

@@ -14,48 +14,48 @@ use Rattle.slots.specs.declared.Slot.{Slot}
 use Rattle.slots.specs.declared.Slots.{Slots}
 use Rattle.slots.specs.World.{World}
 use Rattle.slots.specs.Laws.{Laws}
-use Rattle.slots.specs.Slots.{slot_at, in_slot, planOn, slotOn, someForce, chargeOn, fee, used, keeps, usageOn, slotsTurned}
-use Rattle.slots.specs.Load.{otherAt, holding, meetsSlot, loadRefusal, loaded}
-use Rattle.slots.specs.Bounds.{slotGood, apart, slotsGood, idleGood, isFreshSlots}
+use Rattle.slots.specs.Slots.{slot_at, in_slot, plan_on, slot_on, some_force, charge_on, fee, used, keeps, usage_on, slots_turned}
+use Rattle.slots.specs.Load.{other_at, holding, meets_slot, load_refusal, loaded}
+use Rattle.slots.specs.Bounds.{slot_good, apart, slots_good, idle_good, is_fresh_slots}
 use Rattle.slots.proofs.InForce.{force-is, no-plan, plan-one, plan-two, plan-none}
 
 module _ (w : World) where
   -- the bounds in parts
   pub record Apart (s : Slots) (d total : ℕ) : Type 0 where
-    pub one : slotGood w s.one ≡ true
-    pub two : slotGood w s.two ≡ true
+    pub one : slot_good w s.one ≡ true
+    pub two : slot_good w s.two ≡ true
     pub apart : apart w s.one s.two d ≡ true
     pub usage : s.usage.0 ≤ total
 
-  pub slots-in : (s : Slots) (d total : ℕ) → slotsGood w s d total ≡ true → Apart s d total
-  unfolding slotsGood
+  pub slots-in : (s : Slots) (d total : ℕ) → slots_good w s d total ≡ true → Apart s d total
+  unfolding slots_good
   slots-in s d total h =
       let a = split h in
       let b = split a.1 in
       let c = split b.1 in
       record { one = a.0; two = b.0; apart = c.0; usage = leb-true _ _ c.1 }
 
-  pub slots-out : (s : Slots) (d total : ℕ) → Apart s d total → slotsGood w s d total ≡ true
-  unfolding slotsGood
+  pub slots-out : (s : Slots) (d total : ℕ) → Apart s d total → slots_good w s d total ≡ true
+  unfolding slots_good
   slots-out s d total a = rw (a.one, a.two, a.apart, le-leb _ _ a.usage)
 
   -- with no plan in force the usage is 0 and the valve closed
-  pub idle-in : (s : Slots) (opened : Bool) (d : ℕ) → idleGood w s opened d ≡ true → someForce w s d ≡ false → (s.usage.0 ≡ 0) × (opened ≡ false)
-  unfolding idleGood
+  pub idle-in : (s : Slots) (opened : Bool) (d : ℕ) → idle_good w s opened d ≡ true → some_force w s d ≡ false → (s.usage.0 ≡ 0) × (opened ≡ false)
+  unfolding idle_good
   idle-in s opened d i h = let k = split (rw h at i) in (eqb-true _ _ k.0, not-true opened k.1)
 
-  pub idle-out : (s : Slots) (opened : Bool) (d : ℕ) → (someForce w s d ≡ false → (s.usage.0 ≡ 0) × (opened ≡ false)) → idleGood w s opened d ≡ true
-  unfolding idleGood
-  idle-out s opened d h = cases (someForce w s d) (λ t. rw t) (λ t. rw (t, eq-eqb _ _ (h t).0, (h t).1))
+  pub idle-out : (s : Slots) (opened : Bool) (d : ℕ) → (some_force w s d ≡ false → (s.usage.0 ≡ 0) × (opened ≡ false)) → idle_good w s opened d ≡ true
+  unfolding idle_good
+  idle-out s opened d h = cases (some_force w s d) (λ t. rw t) (λ t. rw (t, eq-eqb _ _ (h t).0, (h t).1))
 
   -- neither slot's plan is in force
-  pub none-one : (s : Slots) (d : ℕ) → someForce w s d ≡ false → in_slot w s.one d ≡ false
+  pub none-one : (s : Slots) (d : ℕ) → some_force w s d ≡ false → in_slot w s.one d ≡ false
   none-one s d h = or_left _ (in_slot w s.two d) (sym (force-is w s d) ∙ h)
 
-  pub none-two : (s : Slots) (d : ℕ) → someForce w s d ≡ false → in_slot w s.two d ≡ false
+  pub none-two : (s : Slots) (d : ℕ) → some_force w s d ≡ false → in_slot w s.two d ≡ false
   none-two s d h = or_right (in_slot w s.one d) _ (sym (force-is w s d) ∙ h)
 
-  pub both-none : (s : Slots) (d : ℕ) → in_slot w s.one d ≡ false → in_slot w s.two d ≡ false → someForce w s d ≡ false
+  pub both-none : (s : Slots) (d : ℕ) → in_slot w s.one d ≡ false → in_slot w s.two d ≡ false → some_force w s d ≡ false
   both-none s d h i = force-is w s d ∙ neither _ _ h i
 
   -- fresh slots
@@ -64,32 +64,32 @@ module _ (w : World) where
     pub two : s.two.loaded ≡ false
     pub usage : s.usage.0 ≡ 0
 
-  pub unloaded : (s : Slots) → isFreshSlots s ≡ true → Unloaded s
-  unfolding isFreshSlots
+  pub unloaded : (s : Slots) → is_fresh_slots s ≡ true → Unloaded s
+  unfolding is_fresh_slots
   unloaded s h =
       let a = split h in
       let b = split a.1 in
       record { one = not-true _ a.0; two = not-true _ b.0; usage = eqb-true _ _ b.1 }
 
-  pub no-force : (s : Slots) (d : ℕ) → isFreshSlots s ≡ true → someForce w s d ≡ false
+  pub no-force : (s : Slots) (d : ℕ) → is_fresh_slots s ≡ true → some_force w s d ≡ false
   unfolding in_slot
   no-force s d h = let u = unloaded s h in both-none s d (rw u.one) (rw u.two)
 
-  pub fresh-slots : (s : Slots) (d total : ℕ) → isFreshSlots s ≡ true → slotsGood w s d total ≡ true
-  unfolding slotsGood slotGood apart
+  pub fresh-slots : (s : Slots) (d total : ℕ) → is_fresh_slots s ≡ true → slots_good w s d total ≡ true
+  unfolding slots_good slot_good apart
   fresh-slots s d total h = let u = unloaded s h in rw (u.one, u.two, le-leb s.usage.0 total (omega (arith, u.usage)))
 
   -- the turn and pulses leave the plans
-  pub force-turned : (s : Slots) (d e f : ℕ) → someForce w (slotsTurned w s d e) f ≡ someForce w s f
-  unfolding someForce planOn slotOn slotsTurned
+  pub force-turned : (s : Slots) (d e f : ℕ) → some_force w (slots_turned w s d e) f ≡ some_force w s f
+  unfolding some_force plan_on slot_on slots_turned
   force-turned s d e f = refl
 
-  pub force-used : (s : Slots) (b : Bool) (n d : ℕ) → someForce w (used s b n) d ≡ someForce w s d
-  unfolding someForce planOn slotOn used
+  pub force-used : (s : Slots) (b : Bool) (n d : ℕ) → some_force w (used s b n) d ≡ some_force w s d
+  unfolding some_force plan_on slot_on used
   force-used s b n d = refl
 
-  pub no-usage : (s : Slots) (d e : ℕ) → someForce w s e ≡ false → (slotsTurned w s d e).usage.0 ≡ 0
-  unfolding slotsTurned usageOn keeps
+  pub no-usage : (s : Slots) (d e : ℕ) → some_force w s e ≡ false → (slots_turned w s d e).usage.0 ≡ 0
+  unfolding slots_turned usage_on keeps
   no-usage s d e h = rw (no-plan w s e h)
 
   used_low : (b : Bool) (u n total : ℕ) → u ≤ total → cond b (u + n) u ≤ total + n
@@ -105,10 +105,10 @@ module _ (w : World) where
     pub slot : (eqb k 1 || eqb k 2) ≡ true
     pub read : r.answer ≡ Accepted
     pub free : in_slot w (slot_at s k) d ≡ false
-    pub alone : meetsSlot w (otherAt s k) r.plan d ≡ false
+    pub alone : meets_slot w (other_at s k) r.plan d ≡ false
 
-  pub loads : (s : Slots) (d k : ℕ) (r : Reading) → loadRefusal w s d k r ≡ Accepted → Loads s d k r
-  unfolding loadRefusal
+  pub loads : (s : Slots) (d k : ℕ) (r : Reading) → load_refusal w s d k r ≡ Accepted → Loads s d k r
+  unfolding load_refusal
   loads s d k r h =
       let n = need-both {b = eqb k 1 || eqb k 2} 10 h in
       let a = next_both n.1 in
@@ -118,7 +118,7 @@ module _ (w : World) where
 module _ (w : World) (L : Laws w) where
   -- the turn
   apart-later : (a b : Slot) (d e : ℕ) → d ≤ e → apart w a b d ≡ true → apart w a b e ≡ true
-  unfolding apart meetsSlot
+  unfolding apart meets_slot
   apart-later a b d e h k = cases b.loaded
       (λ i. rw i (cases a.loaded
       (λ j. rw j (rw (L.meet-later a.plan b.plan d e h (not-true _ (rw (i, j) at k)))))
@@ -129,8 +129,8 @@ module _ (w : World) (L : Laws w) where
   kept_low true u total h = h
   kept_low false u total h = omega arith
 
-  pub slots-turned : (s : Slots) (d e total : ℕ) → d ≤ e → Apart w s d total → Apart w (slotsTurned w s d e) e total
-  unfolding slotsTurned usageOn
+  pub slots-turned : (s : Slots) (d e total : ℕ) → d ≤ e → Apart w s d total → Apart w (slots_turned w s d e) e total
+  unfolding slots_turned usage_on
   slots-turned s d e total h a = record {
     one = a.one;
     two = a.two;
@@ -139,12 +139,12 @@ module _ (w : World) (L : Laws w) where
   }
 
   -- n pulses cost at most the highest price for each
-  slot-cap : (s : Slot) (d u n : ℕ) → slotGood w s ≡ true → in_slot w s d ≡ true → w.charge s.plan (u + n) ≤ w.charge s.plan u + n * 99999999
-  unfolding slotGood in_slot
+  slot-cap : (s : Slot) (d u n : ℕ) → slot_good w s ≡ true → in_slot w s d ≡ true → w.charge s.plan (u + n) ≤ w.charge s.plan u + n * 99999999
+  unfolding slot_good in_slot
   slot-cap s d u n h i = L.charge-cap s.plan u n (rw (and_left s.loaded _ i) at h)
 
   pub fee-cap : (s : Slots) (d total n : ℕ) → Apart w s d total → fee w s d n ≤ n * 99999999
-  unfolding fee chargeOn
+  unfolding fee charge_on
   fee-cap s d total n a = cases (in_slot w s.one d)
       (λ i. rw (plan-one w s d i) (omega (arith, slot-cap s.one d s.usage.0 n a.one i)))
       (λ i. cases (in_slot w s.two d)
@@ -152,15 +152,15 @@ module _ (w : World) (L : Laws w) where
       (λ j. rw (plan-none w s d i j) (omega arith)))
 
   -- a load
-  slot_held : (p : Plan) → w.good p ≡ true → slotGood w (holding p) ≡ true
-  unfolding slotGood
+  slot_held : (p : Plan) → w.good p ≡ true → slot_good w (holding p) ≡ true
+  unfolding slot_good
   slot_held p h = h
 
-  apart-first : (s : Slot) (p : Plan) (d : ℕ) → meetsSlot w s p d ≡ false → apart w (holding p) s d ≡ true
-  unfolding apart meetsSlot
+  apart-first : (s : Slot) (p : Plan) (d : ℕ) → meets_slot w s p d ≡ false → apart w (holding p) s d ≡ true
+  unfolding apart meets_slot
   apart-first s p d h = cases s.loaded (λ l. rw (l, L.meet-swap s.plan p d (rw l at h))) (λ l. rw l)
 
-  apart-second : (s : Slot) (p : Plan) (d : ℕ) → meetsSlot w s p d ≡ false → apart w s (holding p) d ≡ true
+  apart-second : (s : Slot) (p : Plan) (d : ℕ) → meets_slot w s p d ≡ false → apart w s (holding p) d ≡ true
   unfolding apart
   apart-second s p d h = rw h
 
@@ -171,7 +171,7 @@ module _ (w : World) (L : Laws w) where
       (λ e. rw e (record { one = a.one; two = slot_held r.plan y; apart = apart-second s.one r.plan d (rw e at l.alone); usage = a.usage }))
 
   -- none is in force after it only where none was before it
-  pub none-loaded : (s : Slots) (d k : ℕ) (r : Reading) → Loads w s d k r → someForce w (loaded s k r.plan) d ≡ false → someForce w s d ≡ false
+  pub none-loaded : (s : Slots) (d k : ℕ) (r : Reading) → Loads w s d k r → some_force w (loaded s k r.plan) d ≡ false → some_force w s d ≡ false
   unfolding loaded
   none-loaded s d k r l f = cases (eqb k 1)
       (λ e. both-none w s d (rw e at l.free) (none-two w _ d (rw e at f)))

@@ -3,13 +3,13 @@ use mathlib.Core.Path.{refl, ◌∙◌}
 use Rattle.plan.proofs.Charge.{charge-zero, charge-rises, charge-cap}
 use Rattle.plan.proofs.Force.{convex, no-meet, meet-later, meet-sym}
 use Rattle.plan.proofs.Cycles.{cycle-rises}
-use Rattle.calendar.specs.Date.{isDate}
+use Rattle.calendar.specs.Date.{is_date}
 use Rattle.slots.specs.World.{real}
 use Rattle.slots.specs.Laws.{Laws}
 use Rattle.record.proofs.Accepted.{read-good}
 
 pub real-laws : Laws real
-unfolding isDate
+unfolding is_date
 real-laws = record {
   billing = record {
     charge-zero = charge-zero;

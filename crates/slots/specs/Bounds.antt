@@ -5,35 +5,35 @@ use Rattle.slots.specs.declared.Slot.{Slot}
 use Rattle.slots.specs.declared.Slots.{Slots}
 use Rattle.slots.specs.declared.Force.{Force}
 use Rattle.slots.specs.World.{World, real}
-use Rattle.slots.specs.Load.{meetsSlot}
-use Rattle.slots.specs.Slots.{someForce, forceOn}
+use Rattle.slots.specs.Load.{meets_slot}
+use Rattle.slots.specs.Slots.{some_force, force_on}
 
-unfoldable pub slotGood : World → Slot → Bool
-slotGood w s = cond s.loaded (w.good s.plan) true
+unfoldable pub slot_good : World → Slot → Bool
+slot_good w s = cond s.loaded (w.good s.plan) true
 
 -- no date from d on has both plans in force
 unfoldable pub apart : World → Slot → Slot → ℕ → Bool
-apart w a b d = not (b.loaded && meetsSlot w a b.plan d)
+apart w a b d = not (b.loaded && meets_slot w a b.plan d)
 
-unfoldable pub slotsGood : World → Slots → ℕ → ℕ → Bool
-slotsGood w s d total =
-    slotGood w s.one && (slotGood w s.two && (apart w s.one s.two d && leb s.usage.0 total))
+unfoldable pub slots_good : World → Slots → ℕ → ℕ → Bool
+slots_good w s d total =
+    slot_good w s.one && (slot_good w s.two && (apart w s.one s.two d && leb s.usage.0 total))
 
 -- "usage 0 and valve closed with no plan in force on the clock's date"
-unfoldable pub idleGood : World → Slots → Bool → ℕ → Bool
-idleGood w s opened d = someForce w s d || (eqb s.usage.0 0 && not opened)
+unfoldable pub idle_good : World → Slots → Bool → ℕ → Bool
+idle_good w s opened d = some_force w s d || (eqb s.usage.0 0 && not opened)
 
 -- of a fresh meter: no plan, usage 0
-unfoldable pub isFreshSlots : Slots → Bool
-isFreshSlots s = not s.one.loaded && (not s.two.loaded && eqb s.usage.0 0)
+unfoldable pub is_fresh_slots : Slots → Bool
+is_fresh_slots s = not s.one.loaded && (not s.two.loaded && eqb s.usage.0 0)
 
 -- what the turn from one date to a later one may rely on: both slots good and apart, the slot in force on each of the two dates, and that
 -- they are dates
 pub record MayTurn (s : Slots) (was is : Force) : Type 0 where
-  pub one : slotGood real s.one ≡ true
-  pub two : slotGood real s.two ≡ true
+  pub one : slot_good real s.one ≡ true
+  pub two : slot_good real s.two ≡ true
   pub apart : apart real s.one s.two was.date ≡ true
-  pub old : was ≡ forceOn real s was.date
-  pub new : is ≡ forceOn real s is.date
-  pub oldDate : someForce real s was.date ≡ true → real.date was.date ≡ true
-  pub newDate : real.date is.date ≡ true
+  pub old : was ≡ force_on real s was.date
+  pub new : is ≡ force_on real s is.date
+  pub old_date : some_force real s was.date ≡ true → real.date was.date ≡ true
+  pub new_date : real.date is.date ≡ true

@@ -12,19 +12,19 @@ use Rattle.slots.specs.World.{World}
 use Rattle.slots.specs.Slots.{slot_at, in_slot}
 
 -- the slot that is not slot k
-abbrev pub otherAt : Slots → ℕ → Slot
-otherAt s k = cond (eqb k 1) s.two s.one
+abbrev pub other_at : Slots → ℕ → Slot
+other_at s k = cond (eqb k 1) s.two s.one
 
 -- a date on or after d is in force under both the slot's plan and p
-unfoldable pub meetsSlot : World → Slot → Plan → ℕ → Bool
-meetsSlot w s p d = s.loaded && w.meet s.plan p d
+unfoldable pub meets_slot : World → Slot → Plan → ℕ → Bool
+meets_slot w s p d = s.loaded && w.meet s.plan p d
 
-unfoldable pub loadRefusal : World → Slots → ℕ → ℕ → Reading → Answer
-loadRefusal w s d k r =
+unfoldable pub load_refusal : World → Slots → ℕ → ℕ → Reading → Answer
+load_refusal w s d k r =
     need (eqb k 1 || eqb k 2) 10
     (next r.answer
     (need (not (in_slot w (slot_at s k) d)) 11
-    (need (not (meetsSlot w (otherAt s k) r.plan d)) 12 Accepted)))
+    (need (not (meets_slot w (other_at s k) r.plan d)) 12 Accepted)))
 
 abbrev pub holding : Plan → Slot
 holding p = record { loaded = true; plan = p }

@@ -1,12 +1,12 @@
 -- What the rules take from the calendar and from plans. `real` is document 01's; what is proved of lists of calls is proved of any
 -- world that keeps a few laws, and then taken at `real`.
 use Rattle.std.specs.Prelude.{Bool, ℕ}
-use Rattle.calendar.specs.Date.{isDate}
+use Rattle.calendar.specs.Date.{is_date}
 use Rattle.plan.specs.declared.Plan.{Plan}
-use Rattle.plan.specs.Rules.{isGood}
-use Rattle.plan.specs.Force.{inForce, meet}
-use Rattle.plan.specs.Cycles.{cycleOf}
-use Rattle.plan.specs.Charge.{stepCharge}
+use Rattle.plan.specs.Rules.{is_good}
+use Rattle.plan.specs.Force.{in_force, meet}
+use Rattle.plan.specs.Cycles.{cycle_of}
+use Rattle.plan.specs.Charge.{step_charge}
 
 pub record World : Type 0 where
   -- a date in the calendar
@@ -23,4 +23,4 @@ pub record World : Type 0 where
   pub charge : Plan → ℕ → ℕ
 
 abbrev pub real : World
-real = record { date = isDate; good = isGood; force = inForce; meet = meet; cycle = cycleOf; charge = stepCharge }
+real = record { date = is_date; good = is_good; force = in_force; meet = meet; cycle = cycle_of; charge = step_charge }

@@ -1,7 +1,7 @@
 // A plan loaded into a slot: its refusals and its effect.
 ghost use Rattle.std.specs.Prelude.{◌≡◌, ◌||◌, eqb};
 ghost use Rattle.slots.specs.World.{real};
-ghost use Rattle.slots.specs.Load.{otherAt, loadRefusal, loaded};
+ghost use Rattle.slots.specs.Load.{other_at, load_refusal, loaded};
 
 use crate::{Slot, Slots, chosen};
 use answer::Answer;
@@ -17,14 +17,14 @@ fn is_slot(k: u32) -> bool
 
 impl Slots {
     fn other_at(self, k: u32) -> Slot
-        ensures { result ≡ otherAt self k }
+        ensures { result ≡ other_at self k }
     {
         chosen(k, self.two, self.one)
     }
 
     // Refusals 10, 1 to 7, 11 and 12 of a load on the date, in their order.
     pub fn vet(self, d: u32, k: u32, r: Reading) -> Answer
-        ensures { result ≡ loadRefusal real self d k r }
+        ensures { result ≡ load_refusal real self d k r }
     {
         let a = r.answer;
         let busy = self.slot_at(k).in_force(d);

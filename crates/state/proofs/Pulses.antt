@@ -5,9 +5,9 @@ use mathlib.Core.List.{List, [], ◌∷◌}
 use Prim.Native.Nat.{ℕ, ◌+◌, ◌≤◌}
 use native.Mathlib.Omega.{arith}
 use lib.IntN.{ℤ}
-use Rattle.units.specs.Volume.{highestTotal}
-use Rattle.units.specs.Money.{highestBalance}
-use Rattle.account.specs.Fall.{Mark, marks, valveAfter, fallValve}
+use Rattle.units.specs.Volume.{highest_total}
+use Rattle.units.specs.Money.{highest_balance}
+use Rattle.account.specs.Fall.{Mark, marks, valve_after, fall_valve}
 use Rattle.account.proofs.Kept.{charged-good}
 use Rattle.records.proofs.Kept.{counted-good, held_grown}
 use Rattle.slots.specs.World.{World}
@@ -15,20 +15,20 @@ use Rattle.slots.specs.Laws.{Laws}
 use Rattle.slots.specs.Slots.{used}
 use Rattle.slots.proofs.Kept.{slots-in, slots-out, slots-used, force-used, fee-cap}
 use Rattle.state.specs.State.{State}
-use Rattle.state.specs.Pulsed.{grown, priced, costOf, pulsed}
+use Rattle.state.specs.Pulsed.{grown, priced, cost_of, pulsed}
 use Rattle.state.proofs.Parts.{Parts, total-in, total-out, idle-in, idle-out}
 
 unpriced-low : (b : Bool) (u n total : ℕ) → u ≤ total → cond b u (u + n) ≤ total + n
 unpriced-low true u n total h = omega arith
 unpriced-low false u n total h = omega arith
 
-closed-stays : (ts : List Mark) (was is : ℤ) → fallValve ts was is false ≡ false
-unfolding fallValve valveAfter
+closed-stays : (ts : List Mark) (was is : ℤ) → fall_valve ts was is false ≡ false
+unfolding fall_valve valve_after
 closed-stays [] was is = refl
 closed-stays (t ∷ ts) was is = closed-stays ts was is
 
 module _ (w : World) (L : Laws w) where
-  pub pulsed-state : (m : State) (n : ℕ) → m.volumes.total.0 + n ≤ highestTotal → Parts w m → Parts w (pulsed w m n)
+  pub pulsed-state : (m : State) (n : ℕ) → m.volumes.total.0 + n ≤ highest_total → Parts w m → Parts w (pulsed w m n)
   unfolding pulsed grown used
   pulsed-state m n h i =
       let t = m.volumes.total.0 in
@@ -38,14 +38,14 @@ module _ (w : World) (L : Laws w) where
       let p = priced w m in
       record {
         volumes = total-out (grown m.volumes p n) h (unpriced-low p m.volumes.unpriced.0 n t (total-in m.volumes i.volumes).1);
-        account = charged-good m.account t n (costOf w m n) c i.account;
+        account = charged-good m.account t n (cost_of w m n) c i.account;
         slots = slots-out w (used m.slots p n) d (t + n) (slots-used w m.slots p d n t a);
-        periods = counted-good highestBalance t n (costOf w m n) m.periods c i.periods;
-        held = held_grown highestBalance t n m.held i.held;
+        periods = counted-good highest_balance t n (cost_of w m n) m.periods c i.periods;
+        held = held_grown highest_balance t n m.held i.held;
         idle = idle-out w (pulsed w m n) (λ f.
             let none : p ≡ false = sym (force-used w m.slots p n d) ∙ f in
             let z = idle-in w m i none in (
               rw none z.0,
-              ap (fallValve (marks m.account) m.account.balance.0 _) z.1 ∙ closed-stays (marks m.account) m.account.balance.0 _,
+              ap (fall_valve (marks m.account) m.account.balance.0 _) z.1 ∙ closed-stays (marks m.account) m.account.balance.0 _,
             ));
       }

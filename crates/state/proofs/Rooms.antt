@@ -5,29 +5,29 @@ use mathlib.Core.List.{List, []}
 use Prim.Native.Nat.{ℕ, ◌+◌, ◌*◌, ◌^◌, ◌≤◌, ◌<◌}
 use native.Mathlib.Omega.{arith}
 use lib.Dec.{leb, ltb, eqb}
-use Rattle.units.specs.Money.{Small, highestBalance}
+use Rattle.units.specs.Money.{Small, highest_balance}
 use Rattle.answer.specs.declared.Answer.TheVariants.{Accepted}
 use Rattle.answer.proofs.Tests.{cases, never, split, need-both}
 use borrow.Author.Tests.{le-ltb, leb-true, eq-eqb, ne_eqb, eqb-false}
 use Rattle.calendar.specs.declared.Stamp.{Stamp}
-use Rattle.calendar.specs.Date.{isDate}
+use Rattle.calendar.specs.Date.{is_date}
 use Rattle.calendar.proofs.Stamps.{not-before-date}
-use Rattle.account.specs.Account.{rechargeRefusal}
+use Rattle.account.specs.Account.{recharge_refusal}
 use Rattle.account.proofs.Kept.{account-room, recharge-small}
 use Rattle.records.proofs.Room.{room}
 use Rattle.slots.specs.World.{real}
-use Rattle.slots.specs.Slots.{someForce, slotOn, forceOn, fee, slotsTurned}
-use Rattle.slots.specs.Bounds.{slotGood, apart}
+use Rattle.slots.specs.Slots.{some_force, slot_on, force_on, fee, slots_turned}
+use Rattle.slots.specs.Bounds.{slot_good, apart}
 use Rattle.slots.proofs.Kept.{slots-in, no-force, fee-cap}
 use Rattle.slots.proofs.Real.{real-laws}
-use Rattle.records.specs.Records.{noneHeld}
-use Rattle.records.specs.Bounds.{isFreshHeld}
+use Rattle.records.specs.Records.{none_held}
+use Rattle.records.specs.Bounds.{is_fresh_held}
 use Rattle.records.proofs.Kept.{fresh-held}
 use Rattle.state.specs.declared.Registers.{Registers}
-use Rattle.state.specs.State.{State, stateWith, state_of, alone, registersOf, withClock}
-use Rattle.state.specs.Bounds.{stampGood, noClock, isFresh, stateGood, bounded}
-use Rattle.state.specs.Turn.{turn, turnedTo, turnCodes, turnWords}
-use Rattle.state.specs.Refusals.{stampRefusal, mostPulses, pulseRefusal}
+use Rattle.state.specs.State.{State, state_with, state_of, alone, registers_of, with_clock}
+use Rattle.state.specs.Bounds.{stamp_good, no_clock, is_fresh, state_good, bounded}
+use Rattle.state.specs.Turn.{turn, turned_to, turn_codes, turn_words}
+use Rattle.state.specs.Refusals.{stamp_refusal, most_pulses, pulse_refusal}
 use Rattle.state.proofs.Parts.{Parts, total-in, total-low, state-in, state-out, fresh-parts, bounded-state}
 use Rattle.state.proofs.Turned.{turn-state, turn-volumes}
 use Rattle.state.proofs.Admitted.{stamp-passed}
@@ -36,39 +36,39 @@ use Rattle.state.proofs.Admitted.{stamp-passed}
 pub state : (m : State) → bounded real m ≡ true → Parts real m
 state m h = bounded-state real m h
 
-pub turned-state : (m : State) (s : Stamp) → stampRefusal real m s ≡ Accepted → Parts real (turn real m s)
+pub turned-state : (m : State) (s : Stamp) → stamp_refusal real m s ≡ Accepted → Parts real (turn real m s)
 turned-state m s h =
     let a = stamp-passed real m s h in
     turn-state real real-laws m s (not-before-date m.clock s a.2) (state m a.0)
 
 -- the slots of a meter within its bounds
-pub slot-one : (m : State) → Parts real m → slotGood real m.slots.one ≡ true
+pub slot-one : (m : State) → Parts real m → slot_good real m.slots.one ≡ true
 slot-one m s = (slots-in real m.slots m.clock.date m.volumes.total.0 s.slots).one
 
-pub slot-two : (m : State) → Parts real m → slotGood real m.slots.two ≡ true
+pub slot-two : (m : State) → Parts real m → slot_good real m.slots.two ≡ true
 slot-two m s = (slots-in real m.slots m.clock.date m.volumes.total.0 s.slots).two
 
 pub slots_apart : (m : State) → Parts real m → apart real m.slots.one m.slots.two m.clock.date ≡ true
 slots_apart m s = (slots-in real m.slots m.clock.date m.volumes.total.0 s.slots).apart
 
 -- a plan in force on the clock's date: the clock has a date
-pub clocked : (m : State) → bounded real m ≡ true → noClock m ≡ false → isDate m.clock.date ≡ true
-unfolding bounded stampGood
+pub clocked : (m : State) → bounded real m ≡ true → no_clock m ≡ false → is_date m.clock.date ≡ true
+unfolding bounded stamp_good
 clocked m h q = (split (split (rw q at h)).0).0
 
-unclocked : (m : State) → bounded real m ≡ true → noClock m ≡ true → isFresh m ≡ true
+unclocked : (m : State) → bounded real m ≡ true → no_clock m ≡ true → is_fresh m ≡ true
 unfolding bounded
 unclocked m h q = rw q at h
 
-pub date-some : (m : State) → bounded real m ≡ true → someForce real m.slots m.clock.date ≡ true → isDate m.clock.date ≡ true
-date-some m h i = cases (noClock m)
+pub date-some : (m : State) → bounded real m ≡ true → some_force real m.slots m.clock.date ≡ true → is_date m.clock.date ≡ true
+date-some m h i = cases (no_clock m)
     (λ q. absurd (never i (no-force real m.slots m.clock.date (fresh-parts real m (unclocked m h q)).1)))
     (λ q. clocked m h q)
 
 -- a pulse call
 pub record PulseRoom (m : State) (n : ℕ) : Type 0 where
-  pub one : slotGood real m.slots.one ≡ true
-  pub two : slotGood real m.slots.two ≡ true
+  pub one : slot_good real m.slots.one ≡ true
+  pub two : slot_good real m.slots.two ≡ true
   pub usage : m.slots.usage.0 + n < 2 ^ 32
   pub small : Small m.account.balance.0
   pub cost : fee real m.slots m.clock.date n ≤ n * 99999999
@@ -77,10 +77,10 @@ pub record PulseRoom (m : State) (n : ℕ) : Type 0 where
   pub unpriced : m.volumes.unpriced.0 + n < 2 ^ 32
   pub day : m.periods.day.volume.0 + n < 2 ^ 32
   pub month : m.periods.month.volume.0 + n < 2 ^ 32
-  pub dayCharge : m.periods.day.charge.0 ≤ 99999999 * 99999999
-  pub monthCharge : m.periods.month.charge.0 ≤ 99999999 * 99999999
+  pub day_charge : m.periods.day.charge.0 ≤ 99999999 * 99999999
+  pub month_charge : m.periods.month.charge.0 ≤ 99999999 * 99999999
 
-pub pulse-room : (m : State) (n : ℕ) → stateGood real m ≡ true → m.volumes.total.0 + n ≤ 99999999 → PulseRoom m n
+pub pulse-room : (m : State) (n : ℕ) → state_good real m ≡ true → m.volumes.total.0 + n ≤ 99999999 → PulseRoom m n
 pulse-room m n h t =
     let s = state-in real m h in
     let a = slots-in real m.slots m.clock.date m.volumes.total.0 s.slots in
@@ -95,66 +95,66 @@ pulse-room m n h t =
       few = omega arith;
       total = omega arith;
       unpriced = omega (arith, (total-in m.volumes s.volumes).1);
-      day = omega (arith, j.dayVolume);
-      month = omega (arith, j.monthVolume);
-      dayCharge = omega (arith, j.dayCharge);
-      monthCharge = omega (arith, j.monthCharge);
+      day = omega (arith, j.day_volume);
+      month = omega (arith, j.month_volume);
+      day_charge = omega (arith, j.day_charge);
+      month_charge = omega (arith, j.month_charge);
     }
 
 -- after an accepted test of the count, on the turned meter
-pub pulses-fit : (m : State) (s : Stamp) (n : ℕ) → pulseRefusal m.volumes n ≡ Accepted → (turn real m s).volumes.total.0 + n ≤ 99999999
-unfolding pulseRefusal
-pulses-fit m s n h = rw (turn-volumes real m s) (leb-true _ _ (need-both 14 {a = Accepted} (need-both {b = leb n mostPulses} 13 h).1).0)
+pub pulses-fit : (m : State) (s : Stamp) (n : ℕ) → pulse_refusal m.volumes n ≡ Accepted → (turn real m s).volumes.total.0 + n ≤ 99999999
+unfolding pulse_refusal
+pulses-fit m s n h = rw (turn-volumes real m s) (leb-true _ _ (need-both 14 {a = Accepted} (need-both {b = leb n most_pulses} 13 h).1).0)
 
-pub turned-good : (m : State) (s : Stamp) → stampRefusal real m s ≡ Accepted → stateGood real (turn real m s) ≡ true
+pub turned-good : (m : State) (s : Stamp) → stamp_refusal real m s ≡ Accepted → state_good real (turn real m s) ≡ true
 turned-good m s h = state-out real (turn real m s) (turned-state m s h)
 
 -- the registers after a turn, whether the day turned or not: a stamp of the clock's own date turns no day
-pub turned-clock : (m : State) (s : Stamp) → withClock (alone (registersOf (turn real m s))) s ≡ alone (registersOf (turn real m s))
-unfolding turn turnedTo registersOf stateWith
+pub turned-clock : (m : State) (s : Stamp) → with_clock (alone (registers_of (turn real m s))) s ≡ alone (registers_of (turn real m s))
+unfolding turn turned_to registers_of state_with
 turned-clock m s = cases (ltb m.clock.date s.date) (λ h. rw h) (λ h. rw h)
 
 module _ (r : Registers) (words : List ℕ) (s : Stamp) (h : s.date ≤ r.clock.date) where
-  pub same-day : withClock (alone r) s ≡ alone (registersOf (turn real (state_of r words) s))
-  unfolding turn registersOf stateWith
+  pub same-day : with_clock (alone r) s ≡ alone (registers_of (turn real (state_of r words) s))
+  unfolding turn registers_of state_with
   same-day = rw (le-ltb _ _ h)
 
-  pub same_codes : turnCodes real (state_of r words) s ≡ []
-  unfolding turnCodes stateWith
+  pub same_codes : turn_codes real (state_of r words) s ≡ []
+  unfolding turn_codes state_with
   same_codes = rw (le-ltb _ _ h)
 
-  pub same-words : turnWords r s words ≡ words
-  unfolding turnWords
+  pub same-words : turn_words r s words ≡ words
+  unfolding turn_words
   same-words = rw (le-ltb _ _ h)
 
 -- pulses look at no record, and without them the bounds hold too
-pub alone-good : (m : State) → stateGood real m ≡ true → stateGood real (alone (registersOf m)) ≡ true
-unfolding registersOf stateWith isFreshHeld
+pub alone-good : (m : State) → state_good real m ≡ true → state_good real (alone (registers_of m)) ≡ true
+unfolding registers_of state_with is_fresh_held
 alone-good m h =
     let p = state-in real m h in
-    state-out real (alone (registersOf m)) (record {
+    state-out real (alone (registers_of m)) (record {
       volumes = p.volumes;
       account = p.account;
       slots = p.slots;
       periods = p.periods;
-      held = fresh-held highestBalance m.volumes.total.0 noneHeld none-fresh;
+      held = fresh-held highest_balance m.volumes.total.0 none_held none-fresh;
       idle = p.idle;
     })
   where
-    none-fresh : isFreshHeld noneHeld ≡ true
+    none-fresh : is_fresh_held none_held ≡ true
     none-fresh = refl
 
 -- the slot in force on the stamp's date, after the turn and before it
-pub later-force : (m : State) (s : Stamp) → forceOn real m.slots s.date ≡ forceOn real (turn real m s).slots s.date
-unfolding turn turnedTo slotsTurned slotOn
+pub later-force : (m : State) (s : Stamp) → force_on real m.slots s.date ≡ force_on real (turn real m s).slots s.date
+unfolding turn turned_to slots_turned slot_on
 later-force m s = cases (ltb m.clock.date s.date) (λ h. rw h) (λ h. rw h)
 
 pub same-force :
-    (m : State) (s : Stamp) → stampRefusal real m s ≡ Accepted → s.date ≤ m.clock.date →
-    forceOn real m.slots m.clock.date ≡ forceOn real (turn real m s).slots s.date
+    (m : State) (s : Stamp) → stamp_refusal real m s ≡ Accepted → s.date ≤ m.clock.date →
+    force_on real m.slots m.clock.date ≡ force_on real (turn real m s).slots s.date
 same-force m s h l =
     let e : m.clock.date ≡ s.date = omega (arith, not-before-date m.clock s (stamp-passed real m s h).2) in
-    ap (forceOn real m.slots) e ∙ later-force m s
+    ap (force_on real m.slots) e ∙ later-force m s
 
 -- an account within its bounds
 pub small-balance : (m : State) → Parts real m → Small m.account.balance.0
@@ -163,7 +163,7 @@ small-balance m s = (account-room m.account m.volumes.total.0 s.account (total-l
 pub low-serial : (m : State) → Parts real m → m.account.serial ≤ 65535
 low-serial m s = (account-room m.account m.volumes.total.0 s.account (total-low real m s)).serial
 
-pub small-amount : (m : State) (amount serial : ℕ) → Parts real m → rechargeRefusal m.account amount serial ≡ Accepted → amount ≤ 2 ^ 55
+pub small-amount : (m : State) (amount serial : ℕ) → Parts real m → recharge_refusal m.account amount serial ≡ Accepted → amount ≤ 2 ^ 55
 small-amount m amount serial s h = recharge-small m.account m.volumes.total.0 amount serial s.account (total-low real m s) h
 
 -- the station's two commands

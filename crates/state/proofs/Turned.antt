@@ -5,7 +5,7 @@ use Prim.Native.Nat.{ℕ, ◌≤◌}
 use native.Mathlib.Omega.{arith}
 use lib.Dec.{ltb}
 use borrow.Author.Tests.{ltb-false}
-use Rattle.units.specs.Money.{highestBalance}
+use Rattle.units.specs.Money.{highest_balance}
 use Rattle.answer.proofs.Tests.{cases, and-false}
 use Rattle.calendar.specs.declared.Stamp.{Stamp}
 use Rattle.account.proofs.Kept.{account-room}
@@ -13,48 +13,48 @@ use Rattle.records.proofs.Kept.{opened-good, closed-good}
 use Rattle.record.specs.declared.Reading.{Reading}
 use Rattle.slots.specs.World.{World}
 use Rattle.slots.specs.Laws.{Laws}
-use Rattle.slots.specs.Slots.{someForce, planOn, slotOn, slotsTurned}
-use Rattle.slots.specs.Load.{loadRefusal}
-use Rattle.slots.specs.Bounds.{slotsGood, idleGood}
+use Rattle.slots.specs.Slots.{some_force, plan_on, slot_on, slots_turned}
+use Rattle.slots.specs.Load.{load_refusal}
+use Rattle.slots.specs.Bounds.{slots_good, idle_good}
 use Rattle.slots.proofs.Kept.{slots-in, slots-out, slots-turned, force-turned, no-usage}
 use Rattle.state.specs.State.{State}
-use Rattle.state.specs.Bounds.{noClock}
-use Rattle.state.specs.Turn.{turnedTo, turn}
+use Rattle.state.specs.Bounds.{no_clock}
+use Rattle.state.specs.Turn.{turned_to, turn}
 use Rattle.state.proofs.Parts.{Parts, total-low, idle-out}
 
 -- what the turn leaves
 module _ (w : World) (m : State) (s : Stamp) where
   pub turn-clock : (turn w m s).clock ≡ s
-  unfolding turn turnedTo
+  unfolding turn turned_to
   turn-clock = cases (ltb m.clock.date s.date) (λ t. rw t) (λ t. rw t)
 
   pub turn_one : (turn w m s).slots.one ≡ m.slots.one
-  unfolding turn turnedTo slotsTurned
+  unfolding turn turned_to slots_turned
   turn_one = cases (ltb m.clock.date s.date) (λ t. rw t) (λ t. rw t)
 
   pub turn_two : (turn w m s).slots.two ≡ m.slots.two
-  unfolding turn turnedTo slotsTurned
+  unfolding turn turned_to slots_turned
   turn_two = cases (ltb m.clock.date s.date) (λ t. rw t) (λ t. rw t)
 
   pub turn-account : (turn w m s).account ≡ m.account
-  unfolding turn turnedTo
+  unfolding turn turned_to
   turn-account = cases (ltb m.clock.date s.date) (λ t. rw t) (λ t. rw t)
 
   pub turn-volumes : (turn w m s).volumes ≡ m.volumes
-  unfolding turn turnedTo
+  unfolding turn turned_to
   turn-volumes = cases (ltb m.clock.date s.date) (λ t. rw t) (λ t. rw t)
 
-  pub turn-force : (d : ℕ) → someForce w (turn w m s).slots d ≡ someForce w m.slots d
-  unfolding someForce planOn slotOn
+  pub turn-force : (d : ℕ) → some_force w (turn w m s).slots d ≡ some_force w m.slots d
+  unfolding some_force plan_on slot_on
   turn-force d = rw (turn_one, turn_two)
 
-  pub turn-load : (k : ℕ) (r : Reading) → loadRefusal w (turn w m s).slots (turn w m s).clock.date k r ≡ loadRefusal w m.slots s.date k r
-  unfolding loadRefusal
+  pub turn-load : (k : ℕ) (r : Reading) → load_refusal w (turn w m s).slots (turn w m s).clock.date k r ≡ load_refusal w m.slots s.date k r
+  unfolding load_refusal
   turn-load k r = rw (turn_one, turn_two, turn-clock)
 
 module _ (w : World) (L : Laws w) where
-  turned-state : (m : State) (s : Stamp) → m.clock.date ≤ s.date → Parts w m → Parts w (turnedTo w m s)
-  unfolding turnedTo
+  turned-state : (m : State) (s : Stamp) → m.clock.date ≤ s.date → Parts w m → Parts w (turned_to w m s)
+  unfolding turned_to
   turned-state m s h i =
       let t = m.volumes.total.0 in
       let d = m.clock.date in
@@ -63,12 +63,12 @@ module _ (w : World) (L : Laws w) where
         volumes = i.volumes;
         account = i.account;
         slots = slots-out w _ s.date t (slots-turned w L m.slots d s.date t h (slots-in w m.slots d t i.slots));
-        periods = cases (noClock m) (λ n. rw n i.periods) (λ n. rw n (opened-good highestBalance t m.periods d s.date i.periods));
-        held = cases (noClock m)
+        periods = cases (no_clock m) (λ n. rw n i.periods) (λ n. rw n (opened-good highest_balance t m.periods d s.date i.periods));
+        held = cases (no_clock m)
             (λ n. rw n i.held)
-            (λ n. rw n (closed-good highestBalance t m.held m.periods d s.date m.account.balance i.held i.periods b));
-        idle = idle-out w (turnedTo w m s) (λ f.
-            let none : someForce w m.slots s.date ≡ false = sym (force-turned w m.slots d s.date s.date) ∙ f in
+            (λ n. rw n (closed-good highest_balance t m.held m.periods d s.date m.account.balance i.held i.periods b));
+        idle = idle-out w (turned_to w m s) (λ f.
+            let none : some_force w m.slots s.date ≡ false = sym (force-turned w m.slots d s.date s.date) ∙ f in
             (no-usage w m.slots d s.date none, rw none (and-false m.valve.opened)));
       }
 
@@ -80,8 +80,8 @@ module _ (w : World) (L : Laws w) where
       rw t (record {
         volumes = i.volumes;
         account = i.account;
-        slots = subst (λ (d : ℕ). slotsGood w m.slots d m.volumes.total.0 ≡ true) q i.slots;
+        slots = subst (λ (d : ℕ). slots_good w m.slots d m.volumes.total.0 ≡ true) q i.slots;
         periods = i.periods;
         held = i.held;
-        idle = subst (λ (d : ℕ). idleGood w m.slots m.valve.opened d ≡ true) q i.idle;
+        idle = subst (λ (d : ℕ). idle_good w m.slots m.valve.opened d ≡ true) q i.idle;
       }))

@@ -14,24 +14,24 @@ use Rattle.records.specs.Words.{held_of}
 use Rattle.records.proofs.AfterTurn.{closed-held, closed-long}
 use Rattle.slots.specs.World.{real}
 use Rattle.state.specs.declared.Registers.{Registers}
-use Rattle.state.specs.State.{stateWith, state_of}
-use Rattle.state.specs.Bounds.{noClock, bounded}
-use Rattle.state.specs.Turn.{turn, turnedTo, turnWords}
+use Rattle.state.specs.State.{state_with, state_of}
+use Rattle.state.specs.Bounds.{no_clock, bounded}
+use Rattle.state.specs.Turn.{turn, turned_to, turn_words}
 use Rattle.state.proofs.Rooms.{state, clocked, small-balance}
 
 module _ (r : Registers) (words : List ℕ) (s : Stamp) (long : length words ≡ 548) where
-  pub turn-long : length (turnWords r s words) ≡ 548
-  unfolding turnWords stateWith
+  pub turn-long : length (turn_words r s words) ≡ 548
+  unfolding turn_words state_with
   turn-long = cases (ltb r.clock.date s.date)
-      (λ l. rw l (cases (noClock (state_of r words))
+      (λ l. rw l (cases (no_clock (state_of r words))
       (λ t. rw t long)
       (λ t. rw t (closed-long r.periods r.clock.date s.date r.account.balance words long))))
       (λ l. rw l long)
 
-  pub turn-held : bounded real (state_of r words) ≡ true → (turn real (state_of r words) s).held ≡ held_of (turnWords r s words)
-  unfolding turn turnedTo turnWords stateWith
+  pub turn-held : bounded real (state_of r words) ≡ true → (turn real (state_of r words) s).held ≡ held_of (turn_words r s words)
+  unfolding turn turned_to turn_words state_with
   turn-held h = cases (ltb r.clock.date s.date)
-      (λ l. rw l (cases (noClock (state_of r words))
+      (λ l. rw l (cases (no_clock (state_of r words))
       (λ t. rw t)
       (λ t.
       let low : r.clock.date < 2 ^ 32 = omega (arith, (real-date r.clock.date (clocked (state_of r words) h t)).to) in

@@ -1,12 +1,12 @@
 // Document 01, "Bounds of a meter": what a meter that a host hands in must keep.
 ghost use Rattle.std.specs.Prelude.{◌≡◌};
-ghost use Rattle.units.specs.Money.{highestBalance};
+ghost use Rattle.units.specs.Money.{highest_balance};
 ghost use Rattle.records.specs.Words.{held_of};
-ghost use Rattle.records.specs.Bounds.{heldGood};
+ghost use Rattle.records.specs.Bounds.{held_good};
 ghost use Rattle.slots.specs.World.{real};
-ghost use Rattle.slots.specs.Slots.{someForce};
+ghost use Rattle.slots.specs.Slots.{some_force};
 ghost use Rattle.state.specs.State.{state_of};
-ghost use Rattle.state.specs.Bounds.{isFreshVolumes, isFresh, volumesGood, stateGood, bounded};
+ghost use Rattle.state.specs.Bounds.{is_fresh_volumes, is_fresh, volumes_good, state_good, bounded};
 
 use crate::{Registers, Volumes};
 use account::Account;
@@ -15,13 +15,13 @@ use records::held::Words;
 
 impl Volumes {
     fn is_fresh(self) -> bool
-        ensures { result ≡ isFreshVolumes self }
+        ensures { result ≡ is_fresh_volumes self }
     {
         (self.total.0 == 0) & (self.unpriced.0 == 0)
     }
 
     fn is_good(self) -> bool
-        ensures { result ≡ volumesGood self }
+        ensures { result ≡ volumes_good self }
     {
         (self.total.0 <= Volumes::MOST_TOTAL) & (self.unpriced.0 <= self.total.0)
     }
@@ -29,7 +29,7 @@ impl Volumes {
 
 impl Registers {
     fn is_fresh(self, words: &Words) -> bool
-        ensures { result ≡ isFresh (state_of self words.now) }
+        ensures { result ≡ is_fresh (state_of self words.now) }
     {
         (self.clock.second == 0)
             & (self.account.is_fresh()
@@ -41,9 +41,9 @@ impl Registers {
 
     // `kept`: the held records keep the bounds; they are tested first, while little else is in the processor's registers.
     fn state_good(self, words: &Words, kept: bool, some: bool) -> bool
-        requires kept_value { kept ≡ heldGood highestBalance self.volumes.total.0 (held_of words.now) }
-        requires some_value { some ≡ someForce real self.slots self.clock.date }
-        ensures { result ≡ stateGood real (state_of self words.now) }
+        requires kept_value { kept ≡ held_good highest_balance self.volumes.total.0 (held_of words.now) }
+        requires some_value { some ≡ some_force real self.slots self.clock.date }
+        ensures { result ≡ state_good real (state_of self words.now) }
     {
         self.volumes.is_good()
             & (self.account.is_good(self.volumes.total)
@@ -54,7 +54,7 @@ impl Registers {
 
     // Whether the meter is within its bounds, `some` being whether a plan is in force on the clock's date.
     pub(crate) fn bounded_on(self, words: &Words, some: bool) -> bool
-        requires { some ≡ someForce real self.slots self.clock.date }
+        requires { some ≡ some_force real self.slots self.clock.date }
         ensures { result ≡ bounded real (state_of self words.now) }
     {
         let kept = held::is_good(words, Account::TOP, self.volumes.total);

@@ -7,7 +7,7 @@ use native.Mathlib.Numerals.{add-one}
 use lib.ListN.{length, take, drop, set, length-append, length-drop, drop_of_length-le}
 use lib.Seq.{drop-drop, drop-cons, set_at, take_at, drop_at, take_all}
 use borrow.Rule.Slice.PartMut.{mid_of, put_mid}
-use Rattle.text.specs.Decimal.{startingWith}
+use Rattle.text.specs.Decimal.{starting_with}
 use Rattle.text.specs.Written.{Written}
 
 -- the part `&mut out[at..]` is all that stands from the place on, and what is put there stands behind the rest
@@ -20,7 +20,7 @@ part-put at out part =
     rw (post, append-nil)
 
 pub nothing : (d : List ℕ) → Written [] 0 d 0 d
-unfolding startingWith
+unfolding starting_with
 nothing d = record { count = refl; few = omega arith; buffer = refl }
 
 -- the bound may be larger, and the text another that is the same
@@ -28,13 +28,13 @@ pub within : {t a d out : List ℕ} {m n r : ℕ} → t ≡ a → m ≤ n → Wr
 within e h p = rw e (record { count = p.count; few = omega arith; buffer = p.buffer })
 
 pub same-room : {a d out : List ℕ} {m r : ℕ} → Written a m d r out → r ≤ length d → length out ≡ length d
-unfolding startingWith
+unfolding starting_with
 same-room p h = rw (p.buffer, length-append, length-drop, ← p.count) (omega arith)
 
 -- a byte stored behind a text
 pub byte-behind : {a d out : List ℕ} {m at : ℕ} (x : ℕ) → Written a m d at out → at < length d
     → Written (a ++ (x ∷ [])) (m + 1) d (at + 1) (set out at x)
-unfolding startingWith
+unfolding starting_with
 byte-behind {a} {d} {out} {m} {at} x p h = record {
   count = rw (length-append, p.count);
   few = omega arith;
@@ -46,7 +46,7 @@ byte-behind {a} {d} {out} {m} {at} x p h = record {
 -- a text put into the part of the buffer behind a text
 pub text-behind : {a b d out part : List ℕ} {m n at k : ℕ} → Written a m d at out → Written b n (mid_of at (length out - at) out) k part
     → Written (a ++ b) (m + n) d (at + k) (put_mid at (length out - at) out part)
-unfolding startingWith
+unfolding starting_with
 text-behind {a} {b} {d} {out} {part} {at = at} p g =
     let tk : take at out ≡ a = ap (λ (l : List ℕ). take at l) p.buffer ∙ take_at a (drop (length a) d) at (sym p.count) in
     let dp : drop at out ≡ drop (length a) d = ap (λ (l : List ℕ). drop at l) p.buffer ∙ drop_at a (drop (length a) d) at (sym p.count) in

@@ -8,8 +8,8 @@ use native.Mathlib.Nat.{pow-suc, pow-zero, one-mul, div-lt_iff_lt-mul}
 use lib.Dec.{ltb}
 use lib.ListN.{length, length-append}
 use borrow.Author.Tests.{ltb-true, ltb-false, lt-ltb, le-ltb}
-use Rattle.text.specs.Decimal.{digitsOf, decimal}
-use Rattle.text.specs.Hex.{glyph, glyphsOf, hexadecimal}
+use Rattle.text.specs.Decimal.{digits_of, decimal}
+use Rattle.text.specs.Hex.{glyph, glyphs_of, hexadecimal}
 
 pub cases : {P : Type 0} (t : Bool) → (t ≡ true → P) → (t ≡ false → P) → P
 cases true f g = f refl
@@ -44,28 +44,28 @@ module _ (b : ℕ) (mark : ℕ → ℕ) (text : ℕ → ℕ → List ℕ) (base 
       (λ e. rw (one k x (ltb-true x b e)) (omega arith))
       (λ e. rw (more k x (ltb-false x b e), length-append) (omega arith))
 
-digits-one : (k x : ℕ) → x < 10 → digitsOf (suc k) x ≡ (48 + x) ∷ []
-unfolding digitsOf
+digits-one : (k x : ℕ) → x < 10 → digits_of (suc k) x ≡ (48 + x) ∷ []
+unfolding digits_of
 digits-one k x h = rw (lt-ltb x 10 h)
 
-digits_more : (k x : ℕ) → 10 ≤ x → digitsOf (suc k) x ≡ digitsOf k (x / 10) ++ ((48 + x % 10) ∷ [])
-unfolding digitsOf
+digits_more : (k x : ℕ) → 10 ≤ x → digits_of (suc k) x ≡ digits_of k (x / 10) ++ ((48 + x % 10) ∷ [])
+unfolding digits_of
 digits_more k x h = rw (le-ltb x 10 h)
 
-digits-none : (x : ℕ) → digitsOf 0 x ≡ []
-unfolding digitsOf
+digits-none : (x : ℕ) → digits_of 0 x ≡ []
+unfolding digits_of
 digits-none x = refl
 
-glyphs-one : (k x : ℕ) → x < 16 → glyphsOf (suc k) x ≡ glyph x ∷ []
-unfolding glyphsOf
+glyphs-one : (k x : ℕ) → x < 16 → glyphs_of (suc k) x ≡ glyph x ∷ []
+unfolding glyphs_of
 glyphs-one k x h = rw (lt-ltb x 16 h)
 
-glyphs-more : (k x : ℕ) → 16 ≤ x → glyphsOf (suc k) x ≡ glyphsOf k (x / 16) ++ (glyph (x % 16) ∷ [])
-unfolding glyphsOf
+glyphs-more : (k x : ℕ) → 16 ≤ x → glyphs_of (suc k) x ≡ glyphs_of k (x / 16) ++ (glyph (x % 16) ∷ [])
+unfolding glyphs_of
 glyphs-more k x h = rw (le-ltb x 16 h)
 
-glyphs-none : (x : ℕ) → glyphsOf 0 x ≡ []
-unfolding glyphsOf
+glyphs-none : (x : ℕ) → glyphs_of 0 x ≡ []
+unfolding glyphs_of
 glyphs-none x = refl
 
 -- decimal, of numbers below 2 ^ 64
@@ -75,11 +75,11 @@ decimal-one x h = digits-one 19 x h
 
 pub decimal-more : (x : ℕ) → 10 ≤ x → x < 2 ^ 64 → decimal x ≡ decimal (x / 10) ++ ((48 + x % 10) ∷ [])
 unfolding decimal
-decimal-more x h l = last-behind 10 (λ d. 48 + d) digitsOf (omega arith) digits-none digits-one digits_more 18 x h (omega arith)
+decimal-more x h l = last-behind 10 (λ d. 48 + d) digits_of (omega arith) digits-none digits-one digits_more 18 x h (omega arith)
 
 pub decimal-most : (x : ℕ) → length (decimal x) ≤ 20
 unfolding decimal
-decimal-most x = most 10 (λ d. 48 + d) digitsOf (omega arith) digits-none digits-one digits_more 20 x
+decimal-most x = most 10 (λ d. 48 + d) digits_of (omega arith) digits-none digits-one digits_more 20 x
 
 -- hexadecimal, of numbers below 2 ^ 32
 pub hexadecimal-one : (x : ℕ) → x < 16 → hexadecimal x ≡ glyph x ∷ []
@@ -88,8 +88,8 @@ hexadecimal-one x h = glyphs-one 7 x h
 
 pub hexadecimal-more : (x : ℕ) → 16 ≤ x → x < 2 ^ 32 → hexadecimal x ≡ hexadecimal (x / 16) ++ (glyph (x % 16) ∷ [])
 unfolding hexadecimal
-hexadecimal-more x h l = last-behind 16 glyph glyphsOf (omega arith) glyphs-none glyphs-one glyphs-more 6 x h (omega arith)
+hexadecimal-more x h l = last-behind 16 glyph glyphs_of (omega arith) glyphs-none glyphs-one glyphs-more 6 x h (omega arith)
 
 pub hexadecimal-most : (x : ℕ) → length (hexadecimal x) ≤ 8
 unfolding hexadecimal
-hexadecimal-most x = most 16 glyph glyphsOf (omega arith) glyphs-none glyphs-one glyphs-more 8 x
+hexadecimal-most x = most 16 glyph glyphs_of (omega arith) glyphs-none glyphs-one glyphs-more 8 x

@@ -5,10 +5,10 @@ abbrev pub glyph : ℕ → ℕ
 glyph d = cond (ltb d 10) (48 + d) (55 + d)
 
 -- a number in hexadecimal, of at most k digits
-unfoldable pub glyphsOf : ℕ → ℕ → List ℕ
-glyphsOf zero x = []
-glyphsOf (suc k) x = cond (ltb x 16) (glyph x ∷ []) (glyphsOf k (x / 16) ++ (glyph (x % 16) ∷ []))
+unfoldable pub glyphs_of : ℕ → ℕ → List ℕ
+glyphs_of zero x = []
+glyphs_of (suc k) x = cond (ltb x 16) (glyph x ∷ []) (glyphs_of k (x / 16) ++ (glyph (x % 16) ∷ []))
 
 -- eight digits hold every number of 32 bits
 unfoldable pub hexadecimal : ℕ → List ℕ
-hexadecimal x = glyphsOf 8 x
+hexadecimal x = glyphs_of 8 x

@@ -7,8 +7,8 @@ use native.Mathlib.Omega.{arith}
 use lib.Dec.{eqb}
 use lib.ListN.{length, length-append}
 use Rattle.lines.specs.Pieces.{until, past}
-use Rattle.words.specs.Words.{isBlank, inFront, trimmed, content, word_at}
-use Rattle.words.specs.Hex.{pairsTo, bytes_of}
+use Rattle.words.specs.Words.{is_blank, in_front, trimmed, content, word_at}
+use Rattle.words.specs.Hex.{pairs_to, bytes_of}
 
 until-most : (b : ℕ) (s : List ℕ) → length (until b s) ≤ length s
 unfolding until
@@ -28,9 +28,9 @@ past-most b (x ∷ s) = by-test (eqb x b) (past-most b s)
     by-test true h = omega arith
     by-test false h = omega arith
 
-in-front-most : (x : ℕ) (l : List ℕ) → length (inFront x l) ≤ suc (length l)
-unfolding inFront
-in-front-most x [] = by-test (isBlank x)
+in-front-most : (x : ℕ) (l : List ℕ) → length (in_front x l) ≤ suc (length l)
+unfolding in_front
+in-front-most x [] = by-test (is_blank x)
   where
     by-test : (t : Bool) → length (cond t [] (x ∷ [])) ≤ 1
     by-test true = omega arith
@@ -51,8 +51,8 @@ unfolding word_at
 word-most s zero = until-most 32 s
 word-most s (suc k) = let h = word-most (past 32 s) k in let p = past-most 32 s in omega arith
 
-pairs-length : (w : List ℕ) (n : ℕ) → length (pairsTo w n) ≡ n
-unfolding pairsTo
+pairs-length : (w : List ℕ) (n : ℕ) → length (pairs_to w n) ≡ n
+unfolding pairs_to
 pairs-length w zero = refl
 pairs-length w (suc n) = let h = pairs-length w n in rw length-append (omega arith)
 

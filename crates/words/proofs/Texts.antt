@@ -10,33 +10,33 @@ use lib.ListN.{length, get_or, take, drop}
 use lib.Seq.{take-suc, drop-cons, drop-length}
 use borrow.Author.Tests.{eq-eqb, ne_eqb}
 use Rattle.lines.specs.Pieces.{past}
-use Rattle.words.specs.Words.{isBlank, inFront, trimmed, word_at, wordsBehind, gapAfter, same}
+use Rattle.words.specs.Words.{is_blank, in_front, trimmed, word_at, words_behind, gap_after, same}
 
 -- the blanks at the end
-in-front : (y : ℕ) (l : List ℕ) (x : ℕ) → inFront y (l ++ (x ∷ [])) ≡ y ∷ (l ++ (x ∷ []))
-unfolding inFront
+in-front : (y : ℕ) (l : List ℕ) (x : ℕ) → in_front y (l ++ (x ∷ [])) ≡ y ∷ (l ++ (x ∷ []))
+unfolding in_front
 in-front y [] x = refl
 in-front y (z ∷ l) x = refl
 
-blank-behind : (l : List ℕ) (x : ℕ) → isBlank x ≡ true → trimmed (l ++ (x ∷ [])) ≡ trimmed l
-unfolding trimmed inFront
+blank-behind : (l : List ℕ) (x : ℕ) → is_blank x ≡ true → trimmed (l ++ (x ∷ [])) ≡ trimmed l
+unfolding trimmed in_front
 blank-behind [] x h = rw h
-blank-behind (y ∷ l) x h = ap (inFront y) (blank-behind l x h)
+blank-behind (y ∷ l) x h = ap (in_front y) (blank-behind l x h)
 
-other-behind : (l : List ℕ) (x : ℕ) → isBlank x ≡ false → trimmed (l ++ (x ∷ [])) ≡ l ++ (x ∷ [])
-unfolding trimmed inFront
+other-behind : (l : List ℕ) (x : ℕ) → is_blank x ≡ false → trimmed (l ++ (x ∷ [])) ≡ l ++ (x ∷ [])
+unfolding trimmed in_front
 other-behind [] x h = rw h
-other-behind (y ∷ l) x h = ap (inFront y) (other-behind l x h) ∙ in-front y l x
+other-behind (y ∷ l) x h = ap (in_front y) (other-behind l x h) ∙ in-front y l x
 
 last_of : (s : List ℕ) (n : ℕ) → n ≤ length s → 0 < n → take n s ≡ take (n - 1) s ++ (get_or s (n - 1) 0 ∷ [])
 last_of s n h p =
     let e : n ≡ suc (n - 1) = omega arith in
     ap (λ (m : ℕ). take m s) e ∙ take-suc s (n - 1) 0 (omega arith)
 
-pub trim-blank : (s : List ℕ) (n : ℕ) → n ≤ length s → 0 < n → isBlank (get_or s (n - 1) 0) ≡ true → trimmed (take n s) ≡ trimmed (take (n - 1) s)
+pub trim-blank : (s : List ℕ) (n : ℕ) → n ≤ length s → 0 < n → is_blank (get_or s (n - 1) 0) ≡ true → trimmed (take n s) ≡ trimmed (take (n - 1) s)
 trim-blank s n h p b = ap trimmed (last_of s n h p) ∙ blank-behind (take (n - 1) s) (get_or s (n - 1) 0) b
 
-pub trim-other : (s : List ℕ) (n : ℕ) → n ≤ length s → 0 < n → isBlank (get_or s (n - 1) 0) ≡ false → trimmed (take n s) ≡ take n s
+pub trim-other : (s : List ℕ) (n : ℕ) → n ≤ length s → 0 < n → is_blank (get_or s (n - 1) 0) ≡ false → trimmed (take n s) ≡ take n s
 trim-other s n h p b =
     ap trimmed (last_of s n h p) ∙ other-behind (take (n - 1) s) (get_or s (n - 1) 0) b ∙ sym (last_of s n h p)
 
@@ -50,26 +50,26 @@ unfolding word_at
 word-past s k h = let e : k ≡ suc (k - 1) = omega arith in ap (word_at s) e
 
 -- spaces
-pub space-here : (s : List ℕ) (i : ℕ) → i < length s → get_or s i 0 ≡ 32 → wordsBehind (drop i s) ≡ 1 + wordsBehind (drop (i + 1) s)
-unfolding wordsBehind
+pub space-here : (s : List ℕ) (i : ℕ) → i < length s → get_or s i 0 ≡ 32 → words_behind (drop i s) ≡ 1 + words_behind (drop (i + 1) s)
+unfolding words_behind
 space-here s i h e = rw (add-one, drop-cons s i 0 h, eq-eqb _ _ e)
 
-pub other-here : (s : List ℕ) (i : ℕ) → i < length s → (get_or s i 0 ≡ 32 → ⊥) → wordsBehind (drop i s) ≡ wordsBehind (drop (i + 1) s)
-unfolding wordsBehind
+pub other-here : (s : List ℕ) (i : ℕ) → i < length s → (get_or s i 0 ≡ 32 → ⊥) → words_behind (drop i s) ≡ words_behind (drop (i + 1) s)
+unfolding words_behind
 other-here s i h e = rw (add-one, drop-cons s i 0 h, ne_eqb _ _ e) (omega arith)
 
-pub no-spaces : (s : List ℕ) → wordsBehind (drop (length s) s) ≡ 0
-unfolding wordsBehind
+pub no-spaces : (s : List ℕ) → words_behind (drop (length s) s) ≡ 0
+unfolding words_behind
 no-spaces s = rw drop-length
 
 -- gaps
-pub gap_here : (t : Bool) (s : List ℕ) (i : ℕ) → i < length s → t ≡ true → eqb (get_or s i 0) 32 ≡ true → gapAfter t (drop i s) ≡ true
-unfolding gapAfter
+pub gap_here : (t : Bool) (s : List ℕ) (i : ℕ) → i < length s → t ≡ true → eqb (get_or s i 0) 32 ≡ true → gap_after t (drop i s) ≡ true
+unfolding gap_after
 gap_here t s i h p q = rw (drop-cons s i 0 h, p, q)
 
 pub gap-later : (t : Bool) (s : List ℕ) (i : ℕ) → i < length s → (t && eqb (get_or s i 0) 32) ≡ false
-    → gapAfter t (drop i s) ≡ gapAfter (eqb (get_or s i 0) 32) (drop (i + 1) s)
-unfolding gapAfter
+    → gap_after t (drop i s) ≡ gap_after (eqb (get_or s i 0) 32) (drop (i + 1) s)
+unfolding gap_after
 gap-later t s i h e = rw (add-one, drop-cons s i 0 h, e)
 
 pub first_off : (t u : Bool) → t ≡ false → (t && u) ≡ false
@@ -78,8 +78,8 @@ first_off t u e = rw e
 pub second-off : (t u : Bool) → u ≡ false → (t && u) ≡ false
 second-off t u e = rw (e, and-false)
 
-pub no_gap : (t : Bool) (s : List ℕ) → gapAfter t (drop (length s) s) ≡ false
-unfolding gapAfter
+pub no_gap : (t : Bool) (s : List ℕ) → gap_after t (drop (length s) s) ≡ false
+unfolding gap_after
 no_gap t s = rw drop-length
 
 -- same words

@@ -1,12 +1,12 @@
 // A line of text taken apart: its content, its words, and the numbers and bytes that words write.
 ghost use Rattle.std.specs.Prelude.{◌≡◌, ◌+◌, ◌-◌, ◌*◌, ◌/◌, ◌≤◌, ◌<◌, min, length, take};
 ghost use Rattle.text.specs.Written.{Written};
-ghost use Rattle.words.specs.Words.{isBlank, trimmed, content, word_at, wordsBehind, hasGap, same};
-ghost use Rattle.words.specs.Numbers.{isDigit, isNumber, areNumbers, value_of, wideAt, narrowAt};
-ghost use Rattle.words.specs.Hex.{isCapital, isSmall, isHexDigit, isHex, digitValue, pair_at, bytes_of};
+ghost use Rattle.words.specs.Words.{is_blank, trimmed, content, word_at, words_behind, has_gap, same};
+ghost use Rattle.words.specs.Numbers.{is_digit, is_number, are_numbers, value_of, wide_at, narrow_at};
+ghost use Rattle.words.specs.Hex.{is_capital, is_small, is_hex_digit, is_hex, digit_value, pair_at, bytes_of};
 
 fn is_blank(x: u8) -> bool
-    ensures { result ≡ isBlank x }
+    ensures { result ≡ is_blank x }
 {
     x == 32 || (x == 9 || x == 13)
 }
@@ -47,7 +47,7 @@ pub fn word(s: &[u8], k: usize) -> &[u8]
 
 // How many words stand behind the first.
 pub fn words_behind(s: &[u8]) -> usize
-    ensures { result ≡ wordsBehind s.now }
+    ensures { result ≡ words_behind s.now }
 {
     let mut n = 0;
     let mut i = 0;
@@ -62,7 +62,7 @@ pub fn words_behind(s: &[u8]) -> usize
 
 // Whether two spaces stand together or one in front.
 pub fn has_gap(s: &[u8]) -> bool
-    ensures { result ≡ hasGap s.now }
+    ensures { result ≡ has_gap s.now }
 {
     let mut space = true;
     let mut i = 0;
@@ -95,14 +95,14 @@ pub fn same(a: &[u8], b: &[u8]) -> bool
 }
 
 fn is_digit(x: u8) -> bool
-    ensures { result ≡ isDigit x }
+    ensures { result ≡ is_digit x }
 {
     48 <= x && x <= 57
 }
 
 // Whether a word is a decimal number.
 fn is_number(w: &[u8]) -> bool
-    ensures { result ≡ isNumber w.now }
+    ensures { result ≡ is_number w.now }
 {
     if w.len() == 0 {
         return false;
@@ -119,7 +119,7 @@ fn is_number(w: &[u8]) -> bool
 
 // Whether words 1 to n are decimal numbers.
 pub fn are_numbers(s: &[u8], n: usize) -> bool
-    ensures { result ≡ areNumbers s.now n }
+    ensures { result ≡ are_numbers s.now n }
 {
     let mut k = n;
     while k > 0 {
@@ -166,14 +166,14 @@ fn value(w: &[u8]) -> u64
 
 // The number in word k, at 64 bits.
 pub fn wide_at(s: &[u8], k: usize) -> u64
-    ensures { result ≡ wideAt s.now k }
+    ensures { result ≡ wide_at s.now k }
 {
     value(word(s, k))
 }
 
 // The number in word k, at 32 bits.
 pub fn narrow_at(s: &[u8], k: usize) -> u32
-    ensures { result ≡ narrowAt s.now k }
+    ensures { result ≡ narrow_at s.now k }
 {
     let v = value(word(s, k));
     if v > 4_294_967_295 {
@@ -183,26 +183,26 @@ pub fn narrow_at(s: &[u8], k: usize) -> u32
 }
 
 fn is_capital(x: u8) -> bool
-    ensures { result ≡ isCapital x }
+    ensures { result ≡ is_capital x }
 {
     65 <= x && x <= 70
 }
 
 fn is_small(x: u8) -> bool
-    ensures { result ≡ isSmall x }
+    ensures { result ≡ is_small x }
 {
     97 <= x && x <= 102
 }
 
 fn is_hex_digit(x: u8) -> bool
-    ensures { result ≡ isHexDigit x }
+    ensures { result ≡ is_hex_digit x }
 {
     is_digit(x) || (is_capital(x) || is_small(x))
 }
 
 // Whether a word is pairs of hexadecimal digits.
 pub fn is_hex(w: &[u8]) -> bool
-    ensures { result ≡ isHex w.now }
+    ensures { result ≡ is_hex w.now }
 {
     if w.len() % 2 != 0 {
         return false;
@@ -218,7 +218,7 @@ pub fn is_hex(w: &[u8]) -> bool
 }
 
 fn digit_value(x: u8) -> u8
-    ensures { (result ≡ digitValue x) × (result < 16) }
+    ensures { (result ≡ digit_value x) × (result < 16) }
 {
     if is_digit(x) {
         return x - 48;

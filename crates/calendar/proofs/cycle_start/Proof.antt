@@ -1,12 +1,12 @@
 -- Each arm is the start that the definition has for its word.
 use borrow.Author.Rules.{rules}
-use Rattle.calendar.specs.Cycle.{cycleStart}
+use Rattle.calendar.specs.Cycle.{cycle_start}
 use Rattle.answer.proofs.Chain.{chain}
 use Rattle.calendar.proofs.cycle_start.Statement.{statement}
 use Rattle.calendar.proofs.cycle_start.Tie as tie
 
 pub cycle-start-spec : {M : Type 1} → statement M
-unfolding cycleStart
+unfolding cycle_start
 cycle-start-spec =
     tie.close
     (tie.spec

@@ -1,12 +1,12 @@
 -- The three parts of the sum are those of the definition; a date's bounds keep each in range.
 use native.Mathlib.Omega.{arith}
-use Rattle.calendar.specs.DayNumber.{dayNumber}
+use Rattle.calendar.specs.DayNumber.{day_number}
 use Rattle.calendar.proofs.Days.{real, number_bound}
 use Rattle.calendar.proofs.day_number.Statement.{statement}
 use Rattle.calendar.proofs.day_number.Tie as tie
 
 pub day-number-spec : {M : Type 1} → statement M
-unfolding dayNumber
+unfolding day_number
 day-number-spec =
     tie.close
     (tie.spec

@@ -2,20 +2,20 @@
 use mathlib.Core.Path.{◌≡◌}
 use Prim.Native.Nat.{◌+◌, ◌-◌, ◌≤◌}
 use native.Mathlib.Omega.{arith}
-use Rattle.calendar.specs.DayNumber.{daysOfMonths}
+use Rattle.calendar.specs.DayNumber.{days_of_months}
 use Rattle.calendar.proofs.Lengths.{months-bound, months-more}
 use borrow.Author.Rules.{rules}
 use Rattle.calendar.proofs.days_before.Statement.{statement}
 use Rattle.calendar.proofs.days_before.Tie as tie
 
 abbrev invariant-loop : tie.invariant-loop
-invariant-loop y m n₀ k₀ n k = (1 ≤ k) × (k ≤ m) × (n ≡ daysOfMonths y (k - 1))
+invariant-loop y m n₀ k₀ n k = (1 ≤ k) × (k ≤ m) × (n ≡ days_of_months y (k - 1))
 
 abbrev decreases-loop : tie.decreases-loop
 decreases-loop y m n₀ k₀ n k = m - k
 
 loop-holds : tie.Need-loop-init invariant-loop decreases-loop
-unfolding daysOfMonths
+unfolding days_of_months
 loop-holds c = omega arith
 
 add-n : tie.Need-overflow-add-n invariant-loop decreases-loop

@@ -1,7 +1,7 @@
 -- The arms are the months that the definition tells apart.
 use mathlib.Core.Logic.{⊎_elim, inl, inr}
 use borrow.Author.Tests.{ne_eqb}
-use Rattle.calendar.specs.Date.{daysIn}
+use Rattle.calendar.specs.Date.{days_in}
 use borrow.Author.Rules.{rules}
 use Rattle.calendar.proofs.days_in.Statement.{statement}
 use Rattle.calendar.proofs.days_in.Tie as tie
@@ -10,12 +10,12 @@ returns : tie.Need-returns
 returns c = rw (c.february.ensures, c.before.match.keys1)
 
 returns-2 : tie.Need-returns-2
-unfolding daysIn
+unfolding days_in
 returns-2 c =
     ⊎_elim (λ e. rw e) (λ f. ⊎_elim (λ e. rw e) (λ g. ⊎_elim (λ e. rw e) (λ e. rw e) g) f) c.match.keys2
 
 returns-3 : tie.Need-returns-3
-unfolding daysIn
+unfolding days_in
 returns-3 c =
     rw (
       ne_eqb _ 2 c.match.rest.0.1,

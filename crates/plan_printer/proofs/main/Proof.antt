@@ -1,11 +1,11 @@
 -- The buffers have room for 992 records and for their lines.
-use Rattle.printer.specs.Records.{recordsIn}
+use Rattle.printer.specs.Records.{records_in}
 use borrow.Author.Rules.{rules}
 use Rattle.plan_printer.proofs.main.Statement.{statement}
 use Rattle.plan_printer.proofs.main.Tie as tie
 
 print-all-requires : tie.Need-print-all-requires
-unfolding recordsIn
+unfolding records_in
 print-all-requires c κs = search rules
 
 pub main_spec : {M : Type 1} → statement M

@@ -3,13 +3,13 @@ use mathlib.Core.Path.{sym}
 use native.Mathlib.Omega.{arith}
 use lib.ListN.{length-take}
 use lib.Seq.{length-take-le}
-use Rattle.printer.specs.Records.{recordsIn}
+use Rattle.printer.specs.Records.{records_in}
 use borrow.Author.Rules.{rules}
 use Rattle.plan_printer.proofs.print_some.Statement.{statement}
 use Rattle.plan_printer.proofs.print_some.Tie as tie
 
 lines-requires : tie.Need-lines-requires
-unfolding recordsIn
+unfolding records_in
 lines-requires c κs =
     let same = c.before.before.before.before.read-full.auto in
     simp length-take (omega arith)

@@ -3,7 +3,7 @@ use mathlib.Core.Path.{◌≡◌, sym}
 use native.Mathlib.Omega.{arith}
 use lib.ListN.{take}
 use lib.Seq.{length-take-le}
-use Rattle.printer.specs.Line.{numbersOf}
+use Rattle.printer.specs.Line.{numbers_of}
 use Rattle.printer.proofs.Columns.{eighteen, count-range, numbers-first}
 use borrow.Author.Rules.{rules}
 use Rattle.printer.proofs.plan_line.Statement.{statement}
@@ -30,7 +30,7 @@ returns c =
     let p = n.before.before.before.args.p in
     let h = n.before.before.before.requires.0 in
     let r = c.before.before.put-numbers.ensures in
-    let t : take n.count_of.result n.before.columns_of.result ≡ numbersOf p = rw (n.count_of.ensures, n.before.columns_of.ensures) (numbers-first p h) in
+    let t : take n.count_of.result n.before.columns_of.result ≡ numbers_of p = rw (n.count_of.ensures, n.before.columns_of.ensures) (numbers-first p h) in
     let most = (count-range p h).1 in
     let bound = rw (length-take-le _ _ (array-share-prefix-v n), n.count_of.ensures) at r.few in
     (rw t at r.count, omega arith, rw t at r.buffer)

@@ -5,12 +5,12 @@ use native.Mathlib.Omega.{arith}
 use native.Mathlib.Numerals.{add-one}
 use lib.ListN.{length}
 use borrow.Author.Rules.{rules}
-use Rattle.record.specs.Fields.{pairsIn}
+use Rattle.record.specs.Fields.{pairs_in}
 use Rattle.record.proofs.put_pairs.Statement.{statement}
 use Rattle.record.proofs.put_pairs.Tie as tie
 
 abbrev invariant-loop : tie.invariant-loop
-invariant-loop out₀ p i₀ out i = (i ≤ 6) × (out ≡ pairsIn p out₀ i) × (length out ≡ 66)
+invariant-loop out₀ p i₀ out i = (i ≤ 6) × (out ≡ pairs_in p out₀ i) × (length out ≡ 66)
 
 abbrev decreases-loop : tie.decreases-loop
 decreases-loop out₀ p i₀ out i = 6 - i

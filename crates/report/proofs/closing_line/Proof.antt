@@ -1,13 +1,13 @@
 -- The three numbers and the verdict are put one behind another.
 use native.Mathlib.Omega.{arith}
 use borrow.Author.Rules.{rules}
-use Rattle.report.specs.Closing.{closingLine}
+use Rattle.report.specs.Closing.{closing_line}
 use Rattle.place.proofs.Placed.{then, first}
 use Rattle.report.proofs.closing_line.Statement.{statement}
 use Rattle.report.proofs.closing_line.Tie as tie
 
 returns : tie.Need-returns
-unfolding closingLine
+unfolding closing_line
 returns c =
     let v = c.before.before in
     let s = v.before.before.before.before.before.before.before in

@@ -2,13 +2,13 @@
 use mathlib.Core.Path.{refl}
 use native.Mathlib.Omega.{arith}
 use borrow.Author.Rules.{rules}
-use Rattle.report.specs.Errors.{errorLine}
+use Rattle.report.specs.Errors.{error_line}
 use Rattle.place.proofs.Placed.{then, first}
 use Rattle.report.proofs.error_line.Statement.{statement}
 use Rattle.report.proofs.error_line.Tie as tie
 
 returns : tie.Need-returns
-unfolding errorLine
+unfolding error_line
 returns c =
     let f = c.before.before in
     let n = f.before.before.before.before in

@@ -3,48 +3,48 @@ use native.Mathlib.Omega.{arith}
 use borrow.Author.Rules.{rules}
 use borrow.Author.Tests.{ne_eqb}
 use Rattle.place.proofs.Placed.{within}
-use Rattle.report.specs.Errors.{faultLine, faultText}
+use Rattle.report.specs.Errors.{fault_line, fault_text}
 use Rattle.report.proofs.fault_at.Statement.{statement}
 use Rattle.report.proofs.fault_at.Tie as tie
 
 returns : tie.Need-returns
-unfolding faultLine faultText
+unfolding fault_line fault_text
 returns c =
     let w = c.before.before in
     within (rw w.before.before.before.match.keys1) (omega arith) w.word.ensures
 
 returns-2 : tie.Need-returns-2
-unfolding faultLine faultText
+unfolding fault_line fault_text
 returns-2 c =
     let w = c.before.before in
     within (rw w.before.before.before.match.keys2) (omega arith) w.word2.ensures
 
 returns-3 : tie.Need-returns-3
-unfolding faultLine faultText
+unfolding fault_line fault_text
 returns-3 c =
     let w = c.before.before in
     within (rw w.before.before.before.match.keys3) (omega arith) w.word3.ensures
 
 returns-4 : tie.Need-returns-4
-unfolding faultLine faultText
+unfolding fault_line fault_text
 returns-4 c =
     let w = c.before.before in
     within (rw w.before.before.before.match.keys4) (omega arith) w.word4.ensures
 
 returns-5 : tie.Need-returns-5
-unfolding faultLine faultText
+unfolding fault_line fault_text
 returns-5 c =
     let w = c.before.before in
     within (rw w.before.before.before.match.keys5) (omega arith) w.word5.ensures
 
 returns-6 : tie.Need-returns-6
-unfolding faultLine faultText
+unfolding fault_line fault_text
 returns-6 c =
     let w = c.before.before in
     within (rw w.before.before.before.match.keys6) (omega arith) w.word6.ensures
 
 returns-7 : tie.Need-returns-7
-unfolding faultLine faultText
+unfolding fault_line fault_text
 returns-7 c =
     let w = c.before.before in
     let k = w.before.before.before.match.rest in

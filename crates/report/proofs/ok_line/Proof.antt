@@ -6,14 +6,14 @@ use borrow.Author.Rules.{rules}
 use lib.ListN.{length, take}
 use Rattle.account.specs.Codes.{told}
 use Rattle.place.specs.Place.{Placed}
-use Rattle.report.specs.Lines.{codesText, okLine}
+use Rattle.report.specs.Lines.{codes_text, ok_line}
 use Rattle.report.proofs.Codes.{codes-none, codes-more, codes-told}
 use Rattle.place.proofs.Placed.{nothing, within, then, first}
 use Rattle.report.proofs.ok_line.Statement.{statement}
 use Rattle.report.proofs.ok_line.Tie as tie
 
 abbrev invariant-loop : tie.invariant-loop
-invariant-loop out₀ codes n at₀ i₀ t8 t9 out at i = (i ≤ n) × (length out ≡ length out₀) × Placed at₀ (codesText (take i codes.said)) (28 * i) out₀ at out
+invariant-loop out₀ codes n at₀ i₀ t8 t9 out at i = (i ≤ n) × (length out ≡ length out₀) × Placed at₀ (codes_text (take i codes.said)) (28 * i) out₀ at out
 
 abbrev decreases-loop : tie.decreases-loop
 decreases-loop out₀ codes n at₀ i₀ t8 t9 out at i = n - i
@@ -31,7 +31,7 @@ loop-again c =
     (search rules, search rules, within (codes-more v l.loop.i (omega arith)) (omega arith) (then l.loop.invariant.2 p.item.ensures))
 
 returns : tie.Need-returns invariant-loop decreases-loop
-unfolding okLine
+unfolding ok_line
 returns c =
     let e = c.before.before in
     let l = e.before.before.before.before in

@@ -2,13 +2,13 @@
 use mathlib.Core.List.{append_assoc}
 use native.Mathlib.Omega.{arith}
 use borrow.Author.Rules.{rules}
-use Rattle.report.specs.Lines.{recordText}
+use Rattle.report.specs.Lines.{record_text}
 use Rattle.place.proofs.Placed.{then, within}
 use Rattle.report.proofs.record_at.Statement.{statement}
 use Rattle.report.proofs.record_at.Tie as tie
 
 returns : tie.Need-returns
-unfolding recordText
+unfolding record_text
 returns c =
     let e = c.before.before in
     let v = e.before.before.before.before in

@@ -1,11 +1,11 @@
 -- The tests are those of the definition, the last one first.
-use Rattle.script.specs.Faults.{verdictOf}
+use Rattle.script.specs.Faults.{verdict_of}
 use borrow.Author.Rules.{rules}
 use Rattle.script.proofs.verdict_of.Statement.{statement}
 use Rattle.script.proofs.verdict_of.Tie as tie
 
 returns : tie.Need-returns
-unfolding verdictOf
+unfolding verdict_of
 returns c =
     let known = c.before.before in
     let count = known.before in

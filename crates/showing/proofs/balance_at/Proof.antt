@@ -1,13 +1,13 @@
 -- The word, the sign, the number and the unit are put one behind another.
 use native.Mathlib.Omega.{arith}
 use borrow.Author.Rules.{rules}
-use Rattle.showing.specs.Show.{balanceShown}
+use Rattle.showing.specs.Show.{balance_shown}
 use Rattle.place.proofs.Placed.{within, then}
 use Rattle.showing.proofs.balance_at.Statement.{statement}
 use Rattle.showing.proofs.balance_at.Tie as tie
 
 returns : tie.Need-returns
-unfolding balanceShown
+unfolding balance_shown
 returns c =
     let y = c.before.before in
     let n = y.before.before.before.before.before in

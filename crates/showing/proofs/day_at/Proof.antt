@@ -2,17 +2,17 @@
 use native.Mathlib.Omega.{arith}
 use borrow.Author.Rules.{rules}
 use borrow.Author.Tests.{eq-eqb, ne_eqb}
-use Rattle.showing.specs.Show.{dayShown}
+use Rattle.showing.specs.Show.{day_shown}
 use Rattle.place.proofs.Placed.{within, then}
 use Rattle.showing.proofs.day_at.Statement.{statement}
 use Rattle.showing.proofs.day_at.Tie as tie
 
 returns : tie.Need-returns
-unfolding dayShown
+unfolding day_shown
 returns c = within (rw (eq-eqb _ 0 c.before.before.before.before.before.if1.true)) (omega arith) c.before.before.word.ensures
 
 returns-2 : tie.Need-returns-2
-unfolding dayShown
+unfolding day_shown
 returns-2 c =
     let w = c.before.before in
     let p = w.before.before.before.before.before in

@@ -1,14 +1,14 @@
 -- The lines are put one behind another.
 use native.Mathlib.Omega.{arith}
 use borrow.Author.Rules.{rules}
-use Rattle.state.specs.State.{stateWith}
-use Rattle.showing.specs.Show.{showLines}
+use Rattle.state.specs.State.{state_with}
+use Rattle.showing.specs.Show.{show_lines}
 use Rattle.place.proofs.Placed.{then, first}
 use Rattle.showing.proofs.show.Statement.{statement}
 use Rattle.showing.proofs.show.Tie as tie
 
 returns : tie.Need-returns
-unfolding showLines stateWith
+unfolding show_lines state_with
 returns c =
     let d = c.before.before in
     let v = d.before.before.before.before in

@@ -1,7 +1,7 @@
 -- The number, the price and the unit are put one behind another; or the line of no step.
 use native.Mathlib.Omega.{arith}
 use borrow.Author.Rules.{rules}
-use Rattle.showing.specs.Show.{stepShown}
+use Rattle.showing.specs.Show.{step_shown}
 use Rattle.place.proofs.Placed.{within, then}
 use Rattle.showing.proofs.step_at.Statement.{statement}
 use Rattle.showing.proofs.step_at.Tie as tie
@@ -10,7 +10,7 @@ returns : tie.Need-returns
 returns c = rw c.before.before.before.before.before.s.given.1 c.before.before.unstepped-at.ensures
 
 returns-2 : tie.Need-returns-2
-unfolding stepShown
+unfolding step_shown
 returns-2 c =
     let w = c.before.before in
     let p = w.before.before.before.before.before in

@@ -2,14 +2,14 @@
 use mathlib.Core.Path.{◌≡◌, refl, sym, ap, ◌∙◌}
 use native.Mathlib.Omega.{arith}
 use borrow.Author.Tests.{not-true, not-false}
-use Rattle.words.specs.Numbers.{isNumber, areNumbers}
+use Rattle.words.specs.Numbers.{is_number, are_numbers}
 use Rattle.words.proofs.Digits.{number_at, no-numbers}
 use borrow.Author.Rules.{rules}
 use Rattle.words.proofs.are_numbers.Statement.{statement}
 use Rattle.words.proofs.are_numbers.Tie as tie
 
 abbrev invariant-loop : tie.invariant-loop
-invariant-loop s n k₀ k = areNumbers s k ≡ areNumbers s n
+invariant-loop s n k₀ k = are_numbers s k ≡ are_numbers s n
 
 abbrev decreases-loop : tie.decreases-loop
 decreases-loop s n k₀ k = k
@@ -21,14 +21,14 @@ returns : tie.Need-returns invariant-loop decreases-loop
 returns c =
     let l = c.before.before.before.before in
     let s = l.before.before.args.s.now in
-    let other = ap isNumber (sym c.before.before.word.ensures) ∙ sym c.before.is_number.ensures ∙ not-true c.before.is_number.result c.if1.true in
+    let other = ap is_number (sym c.before.before.word.ensures) ∙ sym c.before.is_number.ensures ∙ not-true c.before.is_number.result c.if1.true in
     sym (rw other at (number_at s l.loop.k (omega arith))) ∙ l.loop.invariant
 
 loop-again : tie.Need-loop-preserved invariant-loop decreases-loop
 loop-again c =
     let l = c.before.before.before.before in
     let s = l.before.before.args.s.now in
-    let number = ap isNumber (sym c.before.before.word.ensures) ∙ sym c.before.is_number.ensures ∙ not-false c.before.is_number.result c.if1.false in
+    let number = ap is_number (sym c.before.before.word.ensures) ∙ sym c.before.is_number.ensures ∙ not-false c.before.is_number.result c.if1.false in
     sym (rw number at (number_at s l.loop.k (omega arith))) ∙ l.loop.invariant
 
 returns-2 : tie.Need-returns-2 invariant-loop decreases-loop

@@ -1,7 +1,7 @@
 -- Each test of the definition gives the bounds of its digits.
 use mathlib.Core.Path.{sym, ◌∙◌}
 use native.Mathlib.Omega.{arith}
-use Rattle.words.specs.Hex.{digitValue}
+use Rattle.words.specs.Hex.{digit_value}
 use Rattle.words.proofs.Digits.{digit-bounds, capital-bounds, small-bounds}
 use borrow.Author.Rules.{rules}
 use Rattle.words.proofs.digit_value.Statement.{statement}
@@ -13,7 +13,7 @@ sub-result c =
     omega arith
 
 returns : tie.Need-returns
-unfolding digitValue
+unfolding digit_value
 returns c =
     let e = sym c.before.is_digit.ensures ∙ c.if1.true in
     let h = digit-bounds c.before.before.args.x e in
@@ -25,7 +25,7 @@ sub-result-2 c =
     omega arith
 
 returns-2 : tie.Need-returns-2
-unfolding digitValue
+unfolding digit_value
 returns-2 c =
     let d = sym c.before.before.before.is_digit.ensures ∙ c.before.before.if1.false in
     let e = sym c.before.is-capital.ensures ∙ c.if2.true in
@@ -38,7 +38,7 @@ sub-result-3 c =
     omega arith
 
 returns-3 : tie.Need-returns-3
-unfolding digitValue
+unfolding digit_value
 returns-3 c =
     let d = sym c.before.before.before.before.before.is_digit.ensures ∙ c.before.before.before.before.if1.false in
     let b = sym c.before.before.before.is-capital.ensures ∙ c.before.before.if2.false in
@@ -47,7 +47,7 @@ returns-3 c =
     (rw (d, b, e), omega arith)
 
 returns-4 : tie.Need-returns-4
-unfolding digitValue
+unfolding digit_value
 returns-4 c =
     let d = sym c.before.before.before.before.before.is_digit.ensures ∙ c.before.before.before.before.if1.false in
     let b = sym c.before.before.before.is-capital.ensures ∙ c.before.before.if2.false in

@@ -5,20 +5,20 @@ use native.Mathlib.Omega.{arith}
 use lib.ListN.{length, get_or, drop}
 use lib.Dec.{eqb}
 use mathlib.Core.Logic.{⊎_elim}
-use Rattle.words.specs.Words.{gapAfter, hasGap}
+use Rattle.words.specs.Words.{gap_after, has_gap}
 use Rattle.words.proofs.Texts.{gap_here, gap-later, first_off, second-off, no_gap}
 use borrow.Author.Rules.{rules}
 use Rattle.words.proofs.has_gap.Statement.{statement}
 use Rattle.words.proofs.has_gap.Tie as tie
 
 abbrev invariant-loop : tie.invariant-loop
-invariant-loop s space₀ i₀ space i = (i ≤ length s) × (gapAfter space (drop i s) ≡ hasGap s)
+invariant-loop s space₀ i₀ space i = (i ≤ length s) × (gap_after space (drop i s) ≡ has_gap s)
 
 abbrev decreases-loop : tie.decreases-loop
 decreases-loop s space₀ i₀ space i = length s - i
 
 loop-holds : tie.Need-loop-init invariant-loop decreases-loop
-unfolding hasGap
+unfolding has_gap
 loop-holds c = (search rules, refl)
 
 returns : tie.Need-returns invariant-loop decreases-loop

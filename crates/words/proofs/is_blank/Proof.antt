@@ -1,19 +1,19 @@
 -- The three tests are those of the definition, in its order.
 use borrow.Author.Tests.{eq-eqb, ne_eqb}
-use Rattle.words.specs.Words.{isBlank}
+use Rattle.words.specs.Words.{is_blank}
 use Rattle.words.proofs.is_blank.Statement.{statement}
 use Rattle.words.proofs.is_blank.Tie as tie
 
 returns : tie.Need-returns
-unfolding isBlank
+unfolding is_blank
 returns c = rw (eq-eqb _ _ c.if1.true)
 
 returns-2 : tie.Need-returns-2
-unfolding isBlank
+unfolding is_blank
 returns-2 c = rw (ne_eqb _ _ c.before.if1.false, eq-eqb _ _ c.if2.true)
 
 returns-3 : tie.Need-returns-3
-unfolding isBlank
+unfolding is_blank
 returns-3 c = rw (ne_eqb _ _ c.before.if1.false, ne_eqb _ _ c.if2.false)
 
 pub is-blank-spec : {M : Type 1} → statement M

@@ -1,15 +1,15 @@
 -- The two tests are those of the definition.
 use borrow.Author.Tests.{le-leb, lt-leb}
-use Rattle.words.specs.Numbers.{isDigit}
+use Rattle.words.specs.Numbers.{is_digit}
 use Rattle.words.proofs.is_digit.Statement.{statement}
 use Rattle.words.proofs.is_digit.Tie as tie
 
 returns : tie.Need-returns
-unfolding isDigit
+unfolding is_digit
 returns c = rw (le-leb _ _ c.if1.true)
 
 returns-2 : tie.Need-returns-2
-unfolding isDigit
+unfolding is_digit
 returns-2 c = rw (lt-leb _ _ c.if1.false)
 
 pub is-digit-spec : {M : Type 1} → statement M

@@ -4,24 +4,24 @@ use Prim.Native.Nat.{◌≤◌, ◌-◌}
 use native.Mathlib.Omega.{arith}
 use lib.ListN.{length, drop}
 use borrow.Author.Tests.{eq-eqb, ne_eqb, not-true, not-false}
-use Rattle.words.specs.Hex.{allHexDigits, isHex}
+use Rattle.words.specs.Hex.{all_hex_digits, is_hex}
 use Rattle.words.proofs.Digits.{hex_digit_at, hex-digits-end}
 use borrow.Author.Rules.{rules}
 use Rattle.words.proofs.is_hex.Statement.{statement}
 use Rattle.words.proofs.is_hex.Tie as tie
 
 abbrev invariant-loop : tie.invariant-loop
-invariant-loop w i₀ i = (i ≤ length w) × (allHexDigits (drop i w) ≡ isHex w)
+invariant-loop w i₀ i = (i ≤ length w) × (all_hex_digits (drop i w) ≡ is_hex w)
 
 abbrev decreases-loop : tie.decreases-loop
 decreases-loop w i₀ i = length w - i
 
 returns : tie.Need-returns invariant-loop decreases-loop
-unfolding isHex
+unfolding is_hex
 returns c = rw (ne_eqb _ _ c.if1.true)
 
 loop-holds : tie.Need-loop-init invariant-loop decreases-loop
-unfolding isHex
+unfolding is_hex
 loop-holds c = (search rules, rw (eq-eqb _ _ c.if1.false))
 
 returns-2 : tie.Need-returns-2 invariant-loop decreases-loop

@@ -4,14 +4,14 @@ use Prim.Native.Nat.{◌≤◌, ◌-◌}
 use native.Mathlib.Omega.{arith}
 use lib.ListN.{length, drop}
 use borrow.Author.Tests.{not-true, not-false}
-use Rattle.words.specs.Numbers.{allDigits, isNumber}
+use Rattle.words.specs.Numbers.{all_digits, is_number}
 use Rattle.words.proofs.Digits.{number-none, number-some, digit_at, digits-end}
 use borrow.Author.Rules.{rules}
 use Rattle.words.proofs.is_number.Statement.{statement}
 use Rattle.words.proofs.is_number.Tie as tie
 
 abbrev invariant-loop : tie.invariant-loop
-invariant-loop w i₀ i = (i ≤ length w) × (allDigits (drop i w) ≡ isNumber w)
+invariant-loop w i₀ i = (i ≤ length w) × (all_digits (drop i w) ≡ is_number w)
 
 abbrev decreases-loop : tie.decreases-loop
 decreases-loop w i₀ i = length w - i

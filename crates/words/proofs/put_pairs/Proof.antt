@@ -5,14 +5,14 @@ use native.Mathlib.Omega.{arith}
 use lib.ListN.{length, length-set}
 use Rattle.text.specs.Written.{Written}
 use Rattle.text.proofs.Behind.{nothing, byte-behind}
-use Rattle.words.specs.Hex.{pair_at, pairsTo, bytes_of}
+use Rattle.words.specs.Hex.{pair_at, pairs_to, bytes_of}
 use Rattle.words.proofs.Digits.{pairs-none, pairs-more}
 use borrow.Author.Rules.{rules}
 use Rattle.words.proofs.put_pairs.Statement.{statement}
 use Rattle.words.proofs.put_pairs.Tie as tie
 
 abbrev invariant-loop : tie.invariant-loop
-invariant-loop w out₀ n i₀ out i = (i ≤ n) × (n ≡ length w / 2) × (length out ≡ length out₀) × Written (pairsTo w i) i out₀ i out
+invariant-loop w out₀ n i₀ out i = (i ≤ n) × (n ≡ length w / 2) × (length out ≡ length out₀) × Written (pairs_to w i) i out₀ i out
 
 abbrev decreases-loop : tie.decreases-loop
 decreases-loop w out₀ n i₀ out i = n - i

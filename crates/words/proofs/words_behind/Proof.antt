@@ -4,14 +4,14 @@ use Prim.Native.Nat.{ℕ, ◌≤◌, ◌+◌, ◌-◌}
 use native.Mathlib.Omega.{arith}
 use lib.ListN.{length, drop}
 use mathlib.Core.Logic.{⊎_elim}
-use Rattle.words.specs.Words.{wordsBehind}
+use Rattle.words.specs.Words.{words_behind}
 use Rattle.words.proofs.Texts.{space-here, other-here, no-spaces}
 use borrow.Author.Rules.{rules}
 use Rattle.words.proofs.words_behind.Statement.{statement}
 use Rattle.words.proofs.words_behind.Tie as tie
 
 abbrev invariant-loop : tie.invariant-loop
-invariant-loop s n₀ i₀ n i = (n ≤ i) × (i ≤ length s) × (n + wordsBehind (drop i s) ≡ wordsBehind s)
+invariant-loop s n₀ i₀ n i = (n ≤ i) × (i ≤ length s) × (n + words_behind (drop i s) ≡ words_behind s)
 
 abbrev decreases-loop : tie.decreases-loop
 decreases-loop s n₀ i₀ n i = length s - i
@@ -34,7 +34,7 @@ returns c =
     let l = c.before in
     let s = l.before.args.s.now in
     let end : l.loop.i ≡ length s = omega arith in
-    let none = ap (λ (n : ℕ). wordsBehind (drop n s)) end ∙ no-spaces s in
+    let none = ap (λ (n : ℕ). words_behind (drop n s)) end ∙ no-spaces s in
     omega arith
 
 pub words-behind-spec : {M : Type 1} → statement M

@@ -1,8 +1,8 @@
 -- The four thresholds are struck in their order, each by its own test, and the codes of each stand behind those of the ones before.
 use borrow.Author.Rules.{rules}
 use native.Mathlib.Omega.{arith}
-use Rattle.account.specs.Codes.{noteAll}
-use Rattle.account.specs.Fall.{marks, fallValve, fallCodes}
+use Rattle.account.specs.Codes.{note_all}
+use Rattle.account.specs.Fall.{marks, fall_valve, fall_codes}
 use Rattle.account.proofs.Notes.{note-append}
 use Rattle.account.proofs.Account.fall.Statement.{statement}
 use Rattle.account.proofs.Account.fall.Tie as tie
@@ -14,7 +14,7 @@ crosses-requires-2 : tie.Need-crosses-requires-2
 crosses-requires-2 c κs = rw c.yuan2.ensures (omega arith)
 
 returns : tie.Need-returns
-unfolding fallValve fallCodes marks noteAll
+unfolding fall_valve fall_codes marks note_all
 returns c =
     let a = c.before.before.before in
     let b = a.before.before.before in

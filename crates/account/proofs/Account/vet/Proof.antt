@@ -1,11 +1,11 @@
 -- The tests and their numbers stand in the definition's order.
 use borrow.Author.Rules.{rules}
-use Rattle.account.specs.Account.{rechargeRefusal}
+use Rattle.account.specs.Account.{recharge_refusal}
 use Rattle.account.proofs.Account.vet.Statement.{statement}
 use Rattle.account.proofs.Account.vet.Tie as tie
 
 returns : tie.Need-returns
-unfolding rechargeRefusal
+unfolding recharge_refusal
 returns c =
     let a = c.before.before.before in
     let b = a.before.before.before in

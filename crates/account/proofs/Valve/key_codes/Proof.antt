@@ -1,12 +1,12 @@
 -- A closed valve gives its code.
 use borrow.Author.Rules.{rules}
-use Rattle.account.specs.Codes.{noteAll}
-use Rattle.account.specs.Valve.{keyCodes}
+use Rattle.account.specs.Codes.{note_all}
+use Rattle.account.specs.Valve.{key_codes}
 use Rattle.account.proofs.Valve.key_codes.Statement.{statement}
 use Rattle.account.proofs.Valve.key_codes.Tie as tie
 
 returns : tie.Need-returns
-unfolding keyCodes noteAll
+unfolding key_codes note_all
 returns c = rw c.note-if.ensures
 
 pub key-codes-spec : {M : Type 1} → statement M

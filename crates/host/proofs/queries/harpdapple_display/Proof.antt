@@ -1,7 +1,7 @@
 -- `display_reply` of a lent meter (`Metered.antt`).
 use mathlib.Core.Path.{◌≡◌}
-use Rattle.query.specs.Queries.{displayAnswer}
-use Rattle.host.specs.Replies.{displayReplyOf}
+use Rattle.query.specs.Queries.{display_answer}
+use Rattle.host.specs.Replies.{display_reply_of}
 use Rattle.host.proofs.Structs.{display-reply}
 use Rattle.host.proofs.Metered.{of-meter}
 use Rattle.host.proofs.queries.display_reply.Symbol as query
@@ -13,5 +13,5 @@ use Rattle.host.proofs.queries.harpdapple_display.Code as code
 pub harpdapple-display-spec : {M : Type 1} → stated.statement M
 unfolding code.routine
 harpdapple-display-spec 𝓤 𝓛 𝓜 𝓡 =
-    of-meter query.name query.routine key.name code.env code.calls-host::queries::display-reply 𝓛 𝓜 𝓡 display-reply (λ m r. r ≡ displayReplyOf (displayAnswer m))
+    of-meter query.name query.routine key.name code.env code.calls-host::queries::display-reply 𝓛 𝓜 𝓡 display-reply (λ m r. r ≡ display_reply_of (display_answer m))
     (code.unfolded 𝓤 𝓛.H 𝓜 𝓡) (query-thm.met 𝓤 𝓛 𝓜 𝓡)

@@ -39,17 +39,17 @@ use denote.Triple.End.{Outs}
 use denote.Triple.Table.{entered, cited}
 use denote.Exit.{yes}
 use Rattle.records.specs.declared.Record.{Record}
-use Rattle.records.specs.Records.{noRecord}
+use Rattle.records.specs.Records.{no_record}
 use Rattle.query.specs.declared.Summed.{Summed}
-use Rattle.query.specs.Queries.{sumAnswer, sumStart, sumWith}
+use Rattle.query.specs.Queries.{sum_answer, sum_start, sum_with}
 use Rattle.query.proofs.Sum.{sum_of, sum_is, sum-next, sum-end}
 use Rattle.query.proofs.sum_start.Symbol as start
 use Rattle.query.proofs.sum_start.Met as start-thm
 use Rattle.query.proofs.sum_with.Symbol as with
 use Rattle.query.proofs.sum_with.Met as with-thm
 use Rattle.host.specs.declared.SumReply.{SumReply}
-use Rattle.host.specs.Replies.{sumReplyOf}
-use Rattle.host.proofs.Kind.{row_of, mirOf, mach, told, copied, Param, number}
+use Rattle.host.specs.Replies.{sum_reply_of}
+use Rattle.host.proofs.Kind.{row_of, mir_of, mach, told, copied, Param, number}
 use Rattle.host.proofs.Called.{Promise, Walk, Asks, Ends, asked, called, recalled, exits, met}
 use Rattle.host.proofs.Structs.{day-record, hundredths as volume, sum-reply as answer, summed}
 use Rattle.host.proofs.queries.sum_reply.Symbol as reply
@@ -91,16 +91,16 @@ abbrev ds : List (Slot 1)
 ds = SliceRefOf (0 ∷ []) tt (plain (λ _. row_of day-record)) (λ _. tt) ∷ []
 
 abbrev starts : (κs : Lfts 0) → Denots (types_at ns κs) → Summed → Outs κs ns (yes, tt) → Type 0
-starts κs a r e = r ≡ sumStart a.0
+starts κs a r e = r ≡ sum_start a.0
 
 abbrev adds : (κs : Lfts 0) → Denots (types_at vs κs) → Summed → Outs κs vs (yes, (yes, tt)) → Type 0
-adds κs a r e = r ≡ sumWith a.0 a.1.0
+adds κs a r e = r ≡ sum_with a.0 a.1.0
 
 abbrev tells : (κs : Lfts 0) → Denots (types_at cs κs) → SumReply → Outs κs cs (yes, tt) → Type 0
-tells κs a r e = r ≡ sumReplyOf a.0
+tells κs a r e = r ≡ sum_reply_of a.0
 
 abbrev sums : (κs : Lfts 1) → Denots (types_at ds κs) → SumReply → Outs κs ds (yes, tt) → Type 0
-sums κs a r e = r ≡ sumReplyOf (sumAnswer a.0.now)
+sums κs a r e = r ≡ sum_reply_of (sum_answer a.0.now)
 
 -- the place of a record fits, and so does the next index
 place-fits : {i n : ℕ} → n * 24 < 2 ^ 63 → i < n → i * 24 < 2 ^ 64
@@ -119,7 +119,7 @@ module _ {M : Type 1} {𝓤 : Ura M} (𝓛 : Logic 𝓤) (𝓣 : Tables 𝓤 �
 
   -- record i, and its machine value
   abbrev day : ℕ → Record
-  day i = get_or ys i noRecord
+  day i = get_or ys i no_record
 
   abbrev day-val : ℕ → Val
   day-val i = mach day-record (day i)
@@ -141,7 +141,7 @@ module _ {M : Type 1} {𝓤 : Ura M} (𝓛 : Logic 𝓤) (𝓣 : Tables 𝓤 �
 
   -- the loop's state: i records are passed, and a goes on to the sum
   abbrev State : Type 0
-  State = (i : ℕ) × (a : Summed) × (i ≤ n) × Is summed.R a (summed.val a ∷ []) × (sum_of a (drop i ys) ≡ sumAnswer ys)
+  State = (i : ℕ) × (a : Summed) × (i ≤ n) × Is summed.R a (summed.val a ∷ []) × (sum_of a (drop i ys) ≡ sum_answer ys)
 
   abbrev Nearer : State → State → Type 0
   Nearer x y = n - x.0 < n - y.0
@@ -176,12 +176,12 @@ module _ {M : Type 1} {𝓤 : Ura M} (𝓛 : Logic 𝓤) (𝓣 : Tables 𝓤 �
           assigns ! (bin ! (load ! (from ! (stop !)) (look ! 14 refl)) (lit ! tt) (record { fits = place-fits room.1 (ltb→lt i n less) })) (from ! (stop !)) (store ! 10 refl (tt, record { fits = place-fits room.1 (ltb→lt i n less) })) $
           assigns ! (bin ! (load ! (from ! (fld ! refl (stop !))) (look_in ! 17 (sub ! 0 refl (whole !)))) (load ! (from ! (stop !)) (look ! 10 refl)) tt) (from ! (stop !)) (init ! 6 refl (tt, tt)) $
           rewrite ! 6 (λ (k : ℕ). ‵ (fat full_share ty_ptr l₇ 0 (vptr b k))) (sym (place_is 24 o i)) refl $ move ! (1 ∷ []) $
-          elem_out ! (row_of day-record) (Is (row_of day-record)) (shows 𝓛 (row_of day-record)) (λ y. mach day-record y ∷ []) (told day-record) q' ys i noRecord b o (ltb→lt i n less) (λ g.
+          elem_out ! (row_of day-record) (Is (row_of day-record)) (shows 𝓛 (row_of day-record)) (λ y. mach day-record y ∷ []) (told day-record) q' ys i no_record b o (ltb→lt i n less) (λ g.
           -- [the record; what it owns; the others; _2; the open borrow; …; _8; …]. Behind the reference the record stands at its raw type; its volume is copied at the type by name
-          use1 𝓛 (‵ (fat q' (mirOf day-record) b (place 24 o i) (day-val i))) (𝓛.laws.raw_at q' (mirOf day-record) b (place 24 o i) (day-val i)) $
+          use1 𝓛 (‵ (fat q' (mir_of day-record) b (place 24 o i) (day-val i))) (𝓛.laws.raw_at q' (mir_of day-record) b (place 24 o i) (day-val i)) $
           assigns ! (of_opd ! (load ! (from ! (hop ! (look ! 8 refl) (fld ! refl (stop !)))) (look_in ! 0 (sub ! 1 refl (whole !))))) (from ! (stop !)) (init ! 6 refl (volume.typed 𝓛 (day i).volume _ (LL.owed day-record.type day-record.laws (day i) _ g).1.0)) $
-          use1 𝓛 (‵ (cell_at q' (row_of day-record).mir (day-val i ∷ []) b (place 24 o i))) (𝓛.laws.at_raw q' (mirOf day-record) b (place 24 o i) (day-val i)) $
-          elem_back ! (row_of day-record) q' ys i noRecord (day-val i ∷ []) b o (ltb→lt i n less) $
+          use1 𝓛 (‵ (cell_at q' (row_of day-record).mir (day-val i ∷ []) b (place 24 o i))) (𝓛.laws.at_raw q' (mir_of day-record) b (place 24 o i) (day-val i)) $
+          elem_back ! (row_of day-record) q' ys i no_record (day-val i ∷ []) b o (ltb→lt i n less) $
           nothing ! $ owned ! volume.R (Is volume.R) (volume.makes 𝓛) (day i).volume _ (LL.owed day-record.type day-record.laws (day i) _ g).1.0 $ fjoin ! $ owned ! summed.R (Is summed.R) (summed.makes 𝓛) a _ is $ fjoin ! $ nothing ! $
           use2 𝓛 (Asks 0 vs (yes, (yes, tt)) summed adds 𝓛 tt tt (a, ((day i).volume, tt)) (summed.val a ∷ [], (volume.val (day i).volume ∷ [], tt))) (asked 0 vs (yes, (yes, tt)) summed adds 𝓛 tt tt (a, ((day i).volume, tt)) (summed.val a ∷ [], (volume.val (day i).volume ∷ [], tt))) $
           move ! (0 ∷ 2 ∷ []) $
@@ -189,7 +189,7 @@ module _ {M : Type 1} {𝓤 : Ura M} (𝓛 : Logic 𝓤) (𝓣 : Tables 𝓤 �
           (and_then ! (load ! (from ! (stop !)) (look ! 1 refl)) (and_then ! (load ! (from ! (stop !)) (look ! 5 refl)) (no_more !))) (λ r ws e r-is. omit ! $ omit ! $
           assigns_last ! (bin ! (load ! (from ! (stop !)) (look ! 14 refl)) (lit ! tt) (record { fits = next_fits room.0 (ltb→lt i n less) })) (from ! (stop !)) (store ! 14 refl (tt, record { fits = next_fits room.0 (ltb→lt i n less) })) $
           forget ! 4 refl $ forget ! 6 refl $ forget ! 8 refl $ forget ! 10 refl $
-          again ! Nearer At (i, a, inside, is, so_far) (i + 1, r, add-one-le (ltb→lt i n less), r-is, ap (λ (t : Summed). sum_of t (drop (i + 1) ys)) e ∙ (sum-next a ys i noRecord (ltb→lt i n less) ∙ so_far)) (add-one-dec n i (ltb→lt i n less)))))
+          again ! Nearer At (i, a, inside, is, so_far) (i + 1, r, add-one-le (ltb→lt i n less), r-is, ap (λ (t : Summed). sum_of t (drop (i + 1) ys)) e ∙ (sum-next a ys i no_record (ltb→lt i n less) ∙ so_far)) (add-one-dec n i (ltb→lt i n less)))))
           (λ over. jumps ! $ exec ! 𝓣.C 𝓣.Λ En code.Mir.t-5 (at_ret En Post) $ move ! (1 ∷ 2 ∷ []) $ shuts_slice ! tt (row_of day-record) q' ys b o $
           -- [the token; _2; the shared borrow; _8; …; _7; …; _6; …; _5; …; _4; …; _3; …; …; _1; …; room for _0; …]
           nothing ! $ owned ! summed.R (Is summed.R) (summed.makes 𝓛) a _ is $ fjoin ! $ nothing ! $
@@ -199,7 +199,7 @@ module _ {M : Type 1} {𝓤 : Ura M} (𝓛 : Logic 𝓤) (𝓣 : Tables 𝓤 �
           returns ! (look ! 0 refl) $ forget ! 0 refl $ forget ! 2 refl $ forget ! 8 refl $ forget ! 10 refl $ forget ! 12 refl $ forget ! 14 refl $ forget ! 17 refl $
           move ! (0 ∷ 19 ∷ []) $ free1 ! $ move ! (16 ∷ 17 ∷ []) $ free1 ! $ move ! (1 ∷ 15 ∷ []) $ free1 ! $ move ! (12 ∷ 13 ∷ []) $ free1 ! $ move ! (10 ∷ 11 ∷ []) $ free1 ! $ move ! (8 ∷ 9 ∷ []) $ free1 ! $ move ! (6 ∷ 7 ∷ []) $ free1 ! $ move ! (4 ∷ 5 ∷ []) $ free1 ! $ move ! (2 ∷ 3 ∷ []) $ free1 ! $ free0 ! $
           move ! (1 ∷ []) $ omit ! $ nothing ! $ nothing ! $ fjoin ! $ nothing ! $ move ! (2 ∷ 0 ∷ []) $ join ! $
-          by ! (exits 1 ds (yes, tt) answer sums 𝓛 (κ, tt) (q, tt) (s, tt) (shr_slice_vals s, tt) t (tt, tt) (e ∙ ap sumReplyOf (sym (sum-end a ys i (nltb→le i n over)) ∙ so_far)) t-is)))
+          by ! (exits 1 ds (yes, tt) answer sums 𝓛 (κ, tt) (q, tt) (s, tt) (shr_slice_vals s, tt) t (tt, tt) (e ∙ ap sum_reply_of (sym (sum-end a ys i (nltb→le i n over)) ∙ so_far)) t-is)))
 
   walk : Walk 1 ds (yes, tt) answer sums 𝓛 𝓣.C 𝓣.Λ code.function (κ, tt) (q, tt) (s, tt) (shr_slice_vals s, tt)
   walk =

@@ -1,19 +1,19 @@
 -- The refusals in their order, then the turn, then the mark and the valve.
 use mathlib.Core.Path.{sym, ◌∙◌}
 use borrow.Author.Rules.{rules}
-use Rattle.state.specs.State.{stateWith}
+use Rattle.state.specs.State.{state_with}
 use Rattle.state.proofs.Rooms.{is-command, no-command}
 use Rattle.state.proofs.Admitted.{Admitted, admitted, turn-may}
 use Rattle.meter.specs.declared.Meter.{Meter}
 use Rattle.meter.specs.Call.{Call, command as call}
-use Rattle.meter.specs.Refusals.{ownRefusal}
-use Rattle.meter.specs.Machine.{meterOf, stateIn}
+use Rattle.meter.specs.Refusals.{own_refusal}
+use Rattle.meter.specs.Machine.{meter_of, state_in}
 use Rattle.meter.proofs.Outcomes.{not-admitted, own-refused, accepts}
 use Rattle.meter.proofs.Machine.command.Statement.{statement}
 use Rattle.meter.proofs.Machine.command.Tie as tie
 
 abbrev lent : tie.Start → Meter
-lent s = meterOf s.args.self s.args.words.now
+lent s = meter_of s.args.self s.args.words.now
 
 abbrev asked : tie.Start → Call
 asked s = call s.args.p
@@ -21,7 +21,7 @@ asked s = call s.args.p
 abbrev start : tie.After-known-told → tie.Start
 start k = k.before.before.before.before.before.before
 
-stamped : (k : tie.After-known-told) → Admitted (stateIn (lent (start k))) (start k).args.p.stamp k.before.d.given.0.0
+stamped : (k : tie.After-known-told) → Admitted (state_in (lent (start k))) (start k).args.p.stamp k.before.d.given.0.0
 stamped k = admitted _ _ _ (sym k.before.before.before.admit.ensures ∙ k.before.d.given.1)
 
 admit-requires : tie.Need-admit-requires
@@ -34,17 +34,17 @@ returns c =
     not-admitted (lent s) (asked s) _ _ _ m.admit.ensures c.before.enum_told.given.1 c.declined.ensures
 
 returns-2 : tie.Need-returns-2
-unfolding ownRefusal
+unfolding own_refusal
 returns-2 c =
     let k = c.before.before.before in
     own-refused (lent (start k)) (asked (start k)) (stamped k).passed _ _ (rw (no-command _ c.before.if1.true)) c.refused.ensures
 
 turn-requires : tie.Need-turn-requires
-unfolding stateWith
+unfolding state_with
 turn-requires c κs = turn-may (stamped c.before.before.before)
 
 returns-3 : tie.Need-returns-3
-unfolding ownRefusal
+unfolding own_refusal
 returns-3 c =
     let t = c.before in
     let i = t.before.before in

@@ -3,20 +3,20 @@ use mathlib.Core.Path.{◌≡◌, sym, ◌∙◌}
 use borrow.Author.Rules.{rules}
 use Rattle.answer.specs.declared.Answer.TheVariants.{Accepted}
 use Rattle.slots.specs.World.{real}
-use Rattle.state.specs.State.{stateWith, registersOf}
+use Rattle.state.specs.State.{state_with, registers_of}
 use Rattle.state.proofs.Turned.{turn-account}
 use Rattle.state.proofs.Rooms.{state, small-balance, low-serial, small-amount}
 use Rattle.state.proofs.Admitted.{Admitted, admitted, turn-may}
 use Rattle.meter.specs.declared.Meter.{Meter}
 use Rattle.meter.specs.Call.{Call, recharge as call}
-use Rattle.meter.specs.Refusals.{ownRefusal}
-use Rattle.meter.specs.Machine.{meterOf, stateIn}
+use Rattle.meter.specs.Refusals.{own_refusal}
+use Rattle.meter.specs.Machine.{meter_of, state_in}
 use Rattle.meter.proofs.Outcomes.{not-admitted, denied, accepts}
 use Rattle.meter.proofs.Machine.recharge.Statement.{statement}
 use Rattle.meter.proofs.Machine.recharge.Tie as tie
 
 abbrev lent : tie.Start → Meter
-lent s = meterOf s.args.self s.args.words.now
+lent s = meter_of s.args.self s.args.words.now
 
 abbrev asked : tie.Start → Call
 asked s = call s.args.p
@@ -24,7 +24,7 @@ asked s = call s.args.p
 abbrev start : tie.After-known-told → tie.Start
 start k = k.before.before.before.before.before.before
 
-stamped : (k : tie.After-known-told) → Admitted (stateIn (lent (start k))) (start k).args.p.stamp k.before.d.given.0.0
+stamped : (k : tie.After-known-told) → Admitted (state_in (lent (start k))) (start k).args.p.stamp k.before.d.given.0.0
 stamped k = admitted _ _ _ (sym k.before.before.before.admit.ensures ∙ k.before.d.given.1)
 
 admit-requires : tie.Need-admit-requires
@@ -37,33 +37,33 @@ returns c =
     not-admitted (lent s) (asked s) _ _ _ m.admit.ensures c.before.enum_told.given.1 c.declined.ensures
 
 vet-requires : tie.Need-vet-requires
-unfolding stateWith
+unfolding state_with
 vet-requires c κs =
     let s = state _ (stamped c).bounds in
     (small-balance _ s, low-serial _ s)
 
 returns-2 : tie.Need-returns-2
-unfolding ownRefusal stateWith
+unfolding own_refusal state_with
 returns-2 c =
     let v = c.before.before.before in
     let k = v.before in
     denied (lent (start k)) (asked (start k)) (stamped k).passed _ _ _ v.vet.ensures c.before.enum-told3.given.1 c.denied.ensures
 
 turn-requires : tie.Need-turn-requires
-unfolding stateWith
+unfolding state_with
 turn-requires c κs = turn-may (stamped c.before.before.before.before)
 
 -- the call's own tests let it pass
-own : (a : tie.After-enum-told2) → ownRefusal real (stateIn (lent (start a.before.before.before))) (asked (start a.before.before.before)) ≡ Accepted
-unfolding ownRefusal stateWith
+own : (a : tie.After-enum-told2) → own_refusal real (state_in (lent (start a.before.before.before))) (asked (start a.before.before.before)) ≡ Accepted
+unfolding own_refusal state_with
 own a = sym a.before.before.vet.ensures ∙ a.enum-told2.given.1
 
 recharged-requires : tie.Need-recharged-requires
-unfolding ownRefusal registersOf stateWith
+unfolding own_refusal registers_of state_with
 recharged-requires c κs =
     let a = c.before.before in
     let k = a.before.before.before in
-    let m = stateIn (lent (start k)) in
+    let m = state_in (lent (start k)) in
     let p = (start k).args.p in
     let s = state m (stamped k).bounds in
     rw (c.turn.ensures.0, turn-account real m p.stamp) (small-balance m s, small-amount m p.amount.0 p.serial s (own a))

@@ -1,20 +1,20 @@
 -- The clock only: the day turns, and nothing else.
 use mathlib.Core.Path.{refl, sym, ◌∙◌}
 use borrow.Author.Rules.{rules}
-use Rattle.account.specs.Codes.{noteAll}
-use Rattle.state.specs.State.{stateWith, registersOf}
+use Rattle.account.specs.Codes.{note_all}
+use Rattle.state.specs.State.{state_with, registers_of}
 use Rattle.meter.specs.Effects.{effect_of, codes_of}
 use Rattle.state.proofs.Admitted.{Admitted, admitted, turn-may}
 use Rattle.meter.specs.declared.Meter.{Meter}
 use Rattle.meter.specs.Call.{Call, tick as call}
-use Rattle.meter.specs.Refusals.{ownRefusal}
-use Rattle.meter.specs.Machine.{meterOf, stateIn}
+use Rattle.meter.specs.Refusals.{own_refusal}
+use Rattle.meter.specs.Machine.{meter_of, state_in}
 use Rattle.meter.proofs.Outcomes.{not-admitted, accepts}
 use Rattle.meter.proofs.Machine.tick.Statement.{statement}
 use Rattle.meter.proofs.Machine.tick.Tie as tie
 
 abbrev lent : tie.Start → Meter
-lent s = meterOf s.args.self s.args.words.now
+lent s = meter_of s.args.self s.args.words.now
 
 abbrev asked : tie.Start → Call
 asked s = call s.args.p
@@ -22,7 +22,7 @@ asked s = call s.args.p
 abbrev start : tie.After-known-told → tie.Start
 start k = k.before.before.before.before.before.before
 
-stamped : (k : tie.After-known-told) → Admitted (stateIn (lent (start k))) (start k).args.p.stamp k.before.d.given.0.0
+stamped : (k : tie.After-known-told) → Admitted (state_in (lent (start k))) (start k).args.p.stamp k.before.d.given.0.0
 stamped k = admitted _ _ _ (sym k.before.before.before.admit.ensures ∙ k.before.d.given.1)
 
 admit-requires : tie.Need-admit-requires
@@ -35,11 +35,11 @@ returns c =
     not-admitted (lent s) (asked s) _ _ _ m.admit.ensures c.before.enum_told.given.1 c.declined.ensures
 
 turn-requires : tie.Need-turn-requires
-unfolding stateWith
+unfolding state_with
 turn-requires c κs = turn-may (stamped c.before)
 
 returns-2 : tie.Need-returns-2
-unfolding ownRefusal effect_of codes_of noteAll registersOf stateWith
+unfolding own_refusal effect_of codes_of note_all registers_of state_with
 returns-2 c =
     let t = c.before in
     let k = t.before.before in

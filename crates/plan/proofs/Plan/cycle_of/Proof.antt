@@ -1,7 +1,7 @@
 -- The word tells runs of days from calendar cycles; a good plan has what runs ask for.
 use mathlib.Core.Path.{sym, ◌∙◌}
 use borrow.Author.Tests.{eq-eqb, ne_eqb}
-use Rattle.plan.specs.Cycles.{cycleOf}
+use Rattle.plan.specs.Cycles.{cycle_of}
 use Rattle.plan.proofs.Good.{first-date, cycle-days}
 use borrow.Author.Rules.{rules}
 use Rattle.plan.proofs.Plan.cycle_of.Statement.{statement}
@@ -14,11 +14,11 @@ run-of-requires c κs =
     (first-date s.args.self s.requires.0 w, (s.requires.1, cycle-days s.args.self s.requires.0 w))
 
 returns : tie.Need-returns
-unfolding cycleOf
+unfolding cycle_of
 returns c = rw (← c.before.before.cycle-word.ensures, eq-eqb _ _ c.before.if1.true, c.run_of.ensures)
 
 returns-2 : tie.Need-returns-2
-unfolding cycleOf
+unfolding cycle_of
 returns-2 c = rw (← c.before.before.cycle-word.ensures, ne_eqb _ _ c.before.if1.false, c.cycle_start.ensures)
 
 pub cycle-of-spec : {M : Type 1} → statement M

@@ -4,12 +4,12 @@ use Prim.Native.Nat.{◌-◌, ◌≤◌}
 use native.Mathlib.Numerals.{add-one}
 use native.Mathlib.Omega.{arith}
 use borrow.Author.Rules.{rules}
-use Rattle.plan.specs.Rules.{every, pairGood, hasPrice, priced}
+use Rattle.plan.specs.Rules.{every, pair_good, has_price, priced}
 use Rattle.plan.proofs.Plan.pairs.Statement.{statement}
 use Rattle.plan.proofs.Plan.pairs.Tie as tie
 
 abbrev invariant-loop : tie.invariant-loop
-invariant-loop self n digits₀ priced₀ i₀ digits priced i = (i ≤ n) × (digits ≡ every (pairGood self) i) × (priced ≡ every (hasPrice self) i)
+invariant-loop self n digits₀ priced₀ i₀ digits priced i = (i ≤ n) × (digits ≡ every (pair_good self) i) × (priced ≡ every (has_price self) i)
 
 abbrev decreases-loop : tie.decreases-loop
 decreases-loop self n digits₀ priced₀ i₀ digits priced i = n - i

@@ -3,17 +3,17 @@ use mathlib.Core.Path.{ap, ◌∙◌}
 use native.Mathlib.Omega.{arith}
 use borrow.Author.Rules.{rules}
 use Rattle.records.specs.declared.Fetched.TheVariants.{Held}
-use Rattle.records.specs.Words.{heldFrom}
+use Rattle.records.specs.Words.{held_from}
 use Rattle.records.proofs.Rows.{row-held, row-not}
 use Rattle.records.proofs.held.at.Statement.{statement}
 use Rattle.records.proofs.held.at.Tie as tie
 
 returns : tie.Need-returns
-unfolding heldFrom
+unfolding held_from
 returns c = ap Held c.record-at.ensures ∙ row-held _ _ _ _ (omega arith)
 
 returns-2 : tie.Need-returns-2
-unfolding heldFrom
+unfolding held_from
 returns-2 c = row-not _ _ _ _ (omega arith)
 
 pub at-spec : {M : Type 1} → statement M

@@ -2,12 +2,12 @@
 use borrow.Author.Rules.{rules}
 use borrow.Author.Tests.{le-ltb, lt-ltb}
 use Rattle.records.specs.Turn.{opened}
-use Rattle.records.specs.Moves.{closedWords}
+use Rattle.records.specs.Moves.{closed_words}
 use Rattle.records.proofs.held.close.Statement.{statement}
 use Rattle.records.proofs.held.close.Tie as tie
 
 returns : tie.Need-returns
-unfolding opened closedWords
+unfolding opened closed_words
 returns c =
     let days = c.before.before.before.before in
     let first = c.before.before.month-start.ensures in
@@ -18,7 +18,7 @@ returns c =
     )
 
 returns-2 : tie.Need-returns-2
-unfolding opened closedWords
+unfolding opened closed_words
 returns-2 c =
     let test = c.before.before.before.before in
     let days = test.before.before.before.before in

@@ -8,14 +8,14 @@ use borrow.Author.Rules.{rules}
 use borrow.Author.Count.{below_more}
 use borrow.Author.Tests.{leb-true, leb-false}
 use Rattle.records.specs.Queries.{IsHeavy}
-use Rattle.records.specs.Words.{heldFrom}
+use Rattle.records.specs.Words.{held_from}
 use Rattle.records.proofs.AfterTurn.{held-long}
 use Rattle.records.proofs.Rows.{row_at}
 use Rattle.records.proofs.held.heavy.Statement.{statement}
 use Rattle.records.proofs.held.heavy.Tie as tie
 
 abbrev invariant-loop : tie.invariant-loop
-invariant-loop h v n k₀ k = (k ≤ n) × ((n ≤ 62) × ((j : ℕ) → j < k → IsHeavy (heldFrom 0 h) v.0 j → ⊥))
+invariant-loop h v n k₀ k = (k ≤ n) × ((n ≤ 62) × ((j : ℕ) → j < k → IsHeavy (held_from 0 h) v.0 j → ⊥))
 
 abbrev decreases-loop : tie.decreases-loop
 decreases-loop h v n k₀ k = n - k
@@ -24,7 +24,7 @@ loop-holds : tie.Need-loop-init invariant-loop decreases-loop
 loop-holds c = (omega arith, (omega (arith, held-long 0 c.before.args.h.now), λ j p. absurd (omega arith)))
 
 returns : tie.Need-returns invariant-loop decreases-loop
-unfolding heldFrom
+unfolding held_from
 returns c =
     let s = c.before.before.before.before in
     let h = s.before.before.args.h.now in
@@ -33,7 +33,7 @@ returns c =
     (record { held = omega (arith, held-long 0 h); enough = rw e at g }, e)
 
 loop-again : tie.Need-loop-preserved invariant-loop decreases-loop
-unfolding heldFrom
+unfolding held_from
 loop-again c =
     let s = c.before.before.before.before in
     let h = s.before.before.args.h.now in

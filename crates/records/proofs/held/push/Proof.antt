@@ -4,7 +4,7 @@ use mathlib.Core.List.{◌∷◌}
 use Prim.Native.Nat.{◌≤◌, ◌-◌, ◌+◌, ◌*◌}
 use native.Mathlib.Omega.{arith}
 use borrow.Author.Rules.{rules}
-use Rattle.records.specs.Words.{recordWords}
+use Rattle.records.specs.Words.{record_words}
 use Rattle.records.specs.Moves.{pushed}
 use Rattle.records.proofs.Shift.{shifted, shift_none, shift-more, shift-all}
 use Rattle.records.proofs.held.push.Statement.{statement}
@@ -35,7 +35,7 @@ returns c =
     let a = p.before.before.before.before.before.before.args in
     let all : v.i ≡ a.from = omega arith in
     let three : a.from + 3 * n.result - a.from ≡ 3 * n.result = omega arith in
-    let moved = shift-all a.h.now (a.from + 3 * n.result) a.from ((n.result + 1) ∷ recordWords a.r) refl (omega arith) (omega arith) in
+    let moved = shift-all a.h.now (a.from + 3 * n.result) a.from ((n.result + 1) ∷ record_words a.r) refl (omega arith) (omega arith) in
     rw (c.put.ensures, rw all at v.invariant.1.1, ← n.ensures) (moved ∙ rw three)
 
 pub push_spec : {M : Type 1} → statement M

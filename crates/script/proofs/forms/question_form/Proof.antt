@@ -1,28 +1,28 @@
 -- The words are compared in the table's order.
-use Rattle.script.specs.Forms.{formIn, questions}
+use Rattle.script.specs.Forms.{form_in, questions}
 use borrow.Author.Rules.{rules}
 use Rattle.script.proofs.forms.question_form.Statement.{statement}
 use Rattle.script.proofs.forms.question_form.Tie as tie
 
 returns : tie.Need-returns
-unfolding formIn questions
+unfolding form_in questions
 returns c = rw (← c.before.before.same.ensures, c.before.if1.true, c.plain.ensures)
 
 returns-2 : tie.Need-returns-2
-unfolding formIn questions
+unfolding form_in questions
 returns-2 c =
     let a = c.before.before.before.before in
     rw (← a.before.same.ensures, a.if1.false, ← c.before.before.same2.ensures, c.before.if2.true, c.plain2.ensures)
 
 returns-3 : tie.Need-returns-3
-unfolding formIn questions
+unfolding form_in questions
 returns-3 c =
     let b = c.before.before.before.before in
     let a = b.before.before.before in
     rw (← a.before.same.ensures, a.if1.false, ← b.before.same2.ensures, b.if2.false, ← c.before.before.same3.ensures, c.before.if3.true, c.plain3.ensures)
 
 returns-4 : tie.Need-returns-4
-unfolding formIn questions
+unfolding form_in questions
 returns-4 c =
     let d = c.before in
     let b = d.before.before.before in

@@ -1,12 +1,12 @@
 -- Each test of the definition is made, in its order.
 use borrow.Author.Rules.{rules}
-use Rattle.state.specs.State.{stateWith}
-use Rattle.state.specs.Bounds.{isFresh}
+use Rattle.state.specs.State.{state_with}
+use Rattle.state.specs.Bounds.{is_fresh}
 use Rattle.state.proofs.Registers.is_fresh.Statement.{statement}
 use Rattle.state.proofs.Registers.is_fresh.Tie as tie
 
 returns : tie.Need-returns
-unfolding isFresh stateWith
+unfolding is_fresh state_with
 returns c =
     let a = c.before.before.before in
     rw (

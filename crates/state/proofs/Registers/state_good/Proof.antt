@@ -1,13 +1,13 @@
 -- Each test of the definition is made, in its order.
 use borrow.Author.Rules.{rules}
-use Rattle.state.specs.State.{stateWith}
-use Rattle.slots.specs.Bounds.{idleGood}
-use Rattle.state.specs.Bounds.{stateGood}
+use Rattle.state.specs.State.{state_with}
+use Rattle.slots.specs.Bounds.{idle_good}
+use Rattle.state.specs.Bounds.{state_good}
 use Rattle.state.proofs.Registers.state_good.Statement.{statement}
 use Rattle.state.proofs.Registers.state_good.Tie as tie
 
 returns : tie.Need-returns
-unfolding stateGood stateWith idleGood
+unfolding state_good state_with idle_good
 returns c =
     let a = c.before.before.before in
     let s = a.before.before in

@@ -1,11 +1,11 @@
 -- Each test of the definition is made, in its order.
 use borrow.Author.Rules.{rules}
-use Rattle.state.specs.Bounds.{isFreshVolumes}
+use Rattle.state.specs.Bounds.{is_fresh_volumes}
 use Rattle.state.proofs.Volumes.is_fresh.Statement.{statement}
 use Rattle.state.proofs.Volumes.is_fresh.Tie as tie
 
 returns : tie.Need-returns
-unfolding isFreshVolumes
+unfolding is_fresh_volumes
 returns c = search rules
 
 pub is-fresh-spec : {M : Type 1} → statement M
