@@ -1,4 +1,6 @@
 // The account (balance, last serial, alarms), the valve with the station mark, and event codes.
+#![tactic(auto)]
+
 mod events; // events.rt: event codes
 mod thresholds; // thresholds.rt: the valve, and the thresholds that close it
 
@@ -12,7 +14,7 @@ use units::{Charge, Hundredths, Millionths, TenThousandths};
 
 // The balance, the last accepted serial (0 before the first), and the two alarms in whole yuan.
 #[repr(C)]
-#[derive(Drop)]
+#[derive(Clone, Copy)]
 pub struct Account {
     pub balance: Millionths,
     pub serial: u32,
@@ -22,7 +24,7 @@ pub struct Account {
 
 // The station mark, "allow" or "forbid", and the valve.
 #[repr(C)]
-#[derive(Drop)]
+#[derive(Clone, Copy)]
 pub struct Valve {
     pub allow: bool,
     pub opened: bool,
@@ -30,14 +32,14 @@ pub struct Valve {
 
 // Event codes in their order, as 0x12 and, for "80 02 00 12", 0x80020012.
 #[repr(C)]
-#[derive(Drop)]
+#[derive(Clone, Copy)]
 pub struct Codes {
     pub count: usize,
     pub said: [u32; 8],
 }
 
 // A valve on its way past the thresholds, with the codes so far.
-#[derive(Drop)]
+#[derive(Clone, Copy)]
 pub struct Fall {
     pub opened: bool,
     pub codes: Codes,

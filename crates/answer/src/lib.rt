@@ -1,8 +1,10 @@
 // What an operation answers: accepted, or the one number of document 01, "Refusal by operation".
+#![tactic(auto)]
+
 ghost use Rattle.std.specs.Prelude.{◌≡◌};
 ghost use Rattle.answer.specs.Answer.{need, next, is_accepted};
 
-#[derive(Drop)]
+#[derive(Clone, Copy)]
 pub enum Answer {
     Accepted,
     Refused(u8),

@@ -1,4 +1,6 @@
 // Document 01, "Dates" and the calendar part of "Days in force and cycles".
+#![tactic(auto)]
+
 ghost use Rattle.std.specs.Prelude.{◌≡◌, true, ◌-◌, ◌≤◌, ◌<◌};
 ghost use Rattle.calendar.specs.Date.{is_leap, days_in, is_day, is_date};
 ghost use Rattle.calendar.specs.Stamp.{is_stamp, dated, not_before};
@@ -12,14 +14,14 @@ const LAST_DATE: u32 = 20_991_231;
 
 // A date, YYYYMMDD, and a second of that day.
 #[repr(C)]
-#[derive(Drop)]
+#[derive(Clone, Copy)]
 pub struct Stamp {
     pub date: u32,
     pub second: u32,
 }
 
 // The date of a stamp, or the refusal's number.
-#[derive(Drop)]
+#[derive(Clone, Copy)]
 pub enum Dated {
     On(u32),
     Refused(u8),

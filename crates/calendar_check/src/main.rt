@@ -1,4 +1,6 @@
 // Holds the calendar against a count of its own that steps from day to day, at every number from 19990000 to 21009999.
+#![tactic(auto)]
+
 ghost use Rattle.std.specs.Prelude.{◌≡◌, true, ◌+◌, ◌≤◌, ◌<◌};
 ghost use Rattle.calendar.specs.Date.{is_date};
 ghost use Rattle.calendar_check.specs.Tally.{Counted};
@@ -6,7 +8,7 @@ ghost use Rattle.calendar_check.specs.Tally.{Counted};
 use libc::STDOUT_FILENO;
 
 // The first dates of a day's month, quarter and year, as the count passed them.
-#[derive(Drop)]
+#[derive(Clone, Copy)]
 struct Firsts {
     month: u32,
     quarter: u32,
@@ -14,7 +16,7 @@ struct Firsts {
 }
 
 // A day as the count reaches it; `since` says how many years ago the last leap year was.
-#[derive(Drop)]
+#[derive(Clone, Copy)]
 struct Day {
     year: u16,
     month: u8,
@@ -25,7 +27,7 @@ struct Day {
 }
 
 // What was found so far, and the next day that the count expects.
-#[derive(Drop)]
+#[derive(Clone, Copy)]
 struct Tally {
     next: Day,
     numbers: u32,

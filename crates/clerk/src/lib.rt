@@ -1,5 +1,7 @@
 // The work of one line of a journal: what it says, carried out, and its answer put into a lent
 // buffer.
+#![tactic(auto)]
+
 ghost use Rattle.std.specs.Prelude.{◌≡◌, ◌*◌, ◌≤◌, length, take};
 ghost use Rattle.text.specs.Decimal.{starting_with};
 ghost use Rattle.script.specs.Orders.{order_of, record_of};
@@ -15,7 +17,7 @@ use script::{Order, Query};
 use state::Registers;
 
 // The desk after a line, and the length of the answer.
-#[derive(Drop)]
+#[derive(Clone, Copy)]
 pub struct Worked {
     pub desk: Desk,
     pub length: usize,

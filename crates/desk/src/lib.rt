@@ -1,5 +1,7 @@
 // A meter and the ledger's view of it side by side, as a person at a desk plays a journal of calls:
 // each call runs on the meter, and the ledger is told the arguments of an accepted one.
+#![tactic(auto)]
+
 ghost use Rattle.std.specs.Prelude.{◌≡◌};
 ghost use Rattle.meter.specs.Call.{call_of};
 ghost use Rattle.book.specs.Kept.{entered_book};
@@ -10,14 +12,14 @@ use book::Book;
 use meter::{Call, Done, Meter, Outcome};
 use records::held::Words;
 
-#[derive(Drop)]
+#[derive(Clone, Copy)]
 pub struct Desk {
     pub meter: Meter,
     pub book: Book,
 }
 
 // The desk after a call, and what the call answered.
-#[derive(Drop)]
+#[derive(Clone, Copy)]
 pub struct Played {
     pub desk: Desk,
     pub done: Done,

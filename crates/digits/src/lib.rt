@@ -1,4 +1,6 @@
 // Document 01, "Plan record (Table C.1)": "two decimal digits a byte, high digit first".
+#![tactic(auto)]
+
 ghost use Rattle.std.specs.Prelude.{◌≡◌, ◌<◌};
 ghost use Rattle.digits.specs.Digits.{pair_of, byte_of, two_digits};
 

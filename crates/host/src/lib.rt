@@ -1,6 +1,8 @@
 // The host's side of document 01: what firmware and station programs link, with the C ABI.
 // include/harpdapple.h is the manual. A meter stays with the host and is lent; on a refusal it is
 // left as it was. Answers are flat structs: `accepted`, else the number in `refusal`, all else 0.
+#![tactic(auto)]
+
 pub mod calls; // calls.rt: the seven calls on a lent meter
 pub mod plans; // plans.rt: plan records
 pub mod queries; // queries.rt: the questions over a lent meter, and the sum
@@ -17,7 +19,7 @@ use units::{Shown, VolumeSum};
 
 // What a call answers: accepted with its event codes, or refused with the number and none.
 #[repr(C)]
-#[derive(Drop)]
+#[derive(Clone, Copy)]
 pub struct Reply {
     pub accepted: bool,
     pub refusal: u8,
@@ -26,14 +28,14 @@ pub struct Reply {
 
 // What the writer of a plan answers.
 #[repr(C)]
-#[derive(Drop)]
+#[derive(Clone, Copy)]
 pub struct Verdict {
     pub accepted: bool,
     pub refusal: u8,
 }
 
 #[repr(C)]
-#[derive(Drop)]
+#[derive(Clone, Copy)]
 pub struct StepReply {
     pub accepted: bool,
     pub refusal: u8,
@@ -41,7 +43,7 @@ pub struct StepReply {
 }
 
 #[repr(C)]
-#[derive(Drop)]
+#[derive(Clone, Copy)]
 pub struct DisplayReply {
     pub accepted: bool,
     pub refusal: u8,
@@ -50,7 +52,7 @@ pub struct DisplayReply {
 
 // A record with its place k, newest first from 0.
 #[repr(C)]
-#[derive(Drop)]
+#[derive(Clone, Copy)]
 pub struct RecordReply {
     pub accepted: bool,
     pub refusal: u8,
@@ -59,7 +61,7 @@ pub struct RecordReply {
 }
 
 #[repr(C)]
-#[derive(Drop)]
+#[derive(Clone, Copy)]
 pub struct SumReply {
     pub accepted: bool,
     pub refusal: u8,
@@ -67,7 +69,7 @@ pub struct SumReply {
 }
 
 #[repr(C)]
-#[derive(Drop)]
+#[derive(Clone, Copy)]
 pub struct PlanReply {
     pub accepted: bool,
     pub refusal: u8,
@@ -76,7 +78,7 @@ pub struct PlanReply {
 
 // Which of two records is in force: 1 or 2.
 #[repr(C)]
-#[derive(Drop)]
+#[derive(Clone, Copy)]
 pub struct PartReply {
     pub accepted: bool,
     pub refusal: u8,

@@ -1,4 +1,6 @@
 // A buffer of text: where a line ends, and what is not read yet shifted to the start.
+#![tactic(auto)]
+
 ghost use Rattle.std.specs.Prelude.{◌≡◌, ◌≤◌, length};
 ghost use Rattle.lines.specs.Pieces.{until, past, place_of, shifted};
 

@@ -1,5 +1,7 @@
 // Words and numbers put into a lent buffer one behind another, from a place on. Each function answers
 // the place behind what it put; what else stands in the buffer stays.
+#![tactic(auto)]
+
 ghost use Rattle.std.specs.Prelude.{cond, [], ◌∷◌, ◌++◌, ◌+◌, ◌≤◌, length};
 ghost use Rattle.text.specs.Written.{Written};
 ghost use Rattle.place.specs.Place.{Placed};
@@ -9,7 +11,7 @@ use units::{Charge, Hundredths, Millionths, Shown, TenThousandths};
 
 // A number in a line: plain; in hexadecimal; a balance or a display as the number of its units, with
 // a sign; a volume in cubic metres with two decimals; a price with four or a charge with six in yuan.
-#[derive(Drop)]
+#[derive(Clone, Copy)]
 pub enum Value {
     Whole(u64),
     Code(u32),

@@ -8,7 +8,7 @@ use crate::Plan;
 use answer::Answer;
 
 // What the refusals ask of the n pairs: numbers of eight digits at most; a price.
-#[derive(Drop)]
+#[derive(Clone, Copy)]
 struct Pairs {
     digits: bool,
     priced: bool,

@@ -1,5 +1,7 @@
 // Document 01, "The plan printer": reads 66-byte plan records from standard input and prints a line
 // each. A short last record is refused 1; an empty input prints nothing.
+#![tactic(auto)]
+
 ghost use Rattle.std.specs.Prelude.{◌*◌, ◌≤◌, length};
 ghost use Rattle.printer.specs.Records.{records_in};
 

@@ -1,5 +1,7 @@
 // Document 01, "The plan printer": the line of a plan record, and the lines of records one behind
 // another, put into a lent buffer.
+#![tactic(auto)]
+
 ghost use Rattle.std.specs.Prelude.{◌≡◌, true, [], ◌∷◌, ◌++◌, ◌*◌, ◌≤◌, ◌<◌, length};
 ghost use Rattle.text.specs.Decimal.{decimal, spaced, starting_with};
 ghost use Rattle.plan.specs.Rules.{is_good};

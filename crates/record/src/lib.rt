@@ -1,5 +1,7 @@
 // Document 01, "Plan record (Table C.1)", "Read a plan", "Write a plan" and the query "record in
 // force": 66 bytes, two decimal digits a byte, high digit first.
+#![tactic(auto)]
+
 ghost use Rattle.std.specs.Prelude.{◌≡◌, ◌+◌, ◌≤◌, length};
 ghost use Rattle.std.proofs.lemmas.List.Edits.{sets};
 ghost use Rattle.record.specs.Digits.{number_of, quad_of, quad_at, four_bytes};
@@ -15,14 +17,14 @@ use units::{Hundredths, TenThousandths};
 pub const LENGTH: usize = 66;
 
 // A plan that was read, all zero where it is refused.
-#[derive(Drop)]
+#[derive(Clone, Copy)]
 pub struct Reading {
     pub plan: Plan,
     pub answer: Answer,
 }
 
 // Which of two records is in force on a date, or the refusal's number.
-#[derive(Drop)]
+#[derive(Clone, Copy)]
 pub enum Choice {
     First,
     Second,

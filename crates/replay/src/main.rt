@@ -1,5 +1,6 @@
 // Plays a journal of calls from standard input on one meter, a line of answer to each line, and sets
 // the ledger's view of the journal beside the meter's at the end.
+#![tactic(auto)]
 
 ghost use Rattle.std.specs.Prelude.{◌+◌, ◌*◌, ◌≤◌, length};
 
@@ -7,7 +8,7 @@ use desk::Desk;
 use libc::{STDIN_FILENO, STDOUT_FILENO};
 
 // The desk, the lines so far, and whether the program is inside a line that was too long.
-#[derive(Drop)]
+#[derive(Clone, Copy)]
 struct Spot {
     desk: Desk,
     lines: u64,
@@ -16,7 +17,7 @@ struct Spot {
 
 // Where the program is after some lines: the bytes of output that wait, and those of the input that
 // are played or held.
-#[derive(Drop)]
+#[derive(Clone, Copy)]
 struct Turn {
     spot: Spot,
     at: usize,

@@ -1,6 +1,8 @@
 // The lines that the program `replay` prints for a journal of calls, put at the start of a lent
 // buffer. Each function answers how many bytes it put; what stands behind them stays. A buffer of
 // 320 bytes is long enough for each.
+#![tactic(auto)]
+
 ghost use Rattle.std.specs.Prelude.{◌≡◌, ◌+◌, ◌≤◌, min, eqb, length};
 ghost use Rattle.text.specs.Written.{Written};
 ghost use Rattle.place.specs.Place.{Placed};

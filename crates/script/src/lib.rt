@@ -1,4 +1,6 @@
 // A journal of calls as plain text, one call to a line: what a line says, or what is wrong with it.
+#![tactic(auto)]
+
 mod forms; // forms.rt: the table of the words
 
 ghost use Rattle.std.specs.Prelude.{◌≡◌, ◌*◌, ◌≤◌, length};
@@ -11,7 +13,7 @@ use meter::{Alarms, Call, Command, Key, Load, Pulses, Recharge, Tick};
 use units::{Hundredths, TenThousandths};
 
 // What a first word asks for.
-#[derive(Drop)]
+#[derive(Clone, Copy)]
 pub enum Kind {
     Pulse,
     Recharge,
@@ -31,7 +33,7 @@ pub enum Kind {
 
 // How a line is made: what its first word asks for, whether it is known, how many words follow it,
 // and how many of these are decimal numbers. The one behind them is the record of a plan.
-#[derive(Drop)]
+#[derive(Clone, Copy)]
 pub struct Form {
     pub kind: Kind,
     pub known: bool,
@@ -39,14 +41,14 @@ pub struct Form {
     pub numbers: usize,
 }
 
-#[derive(Drop)]
+#[derive(Clone, Copy)]
 pub enum Verdict {
     Sound,
     Fault(u8),
 }
 
 // A question on the meter.
-#[derive(Drop)]
+#[derive(Clone, Copy)]
 pub enum Query {
     Step,
     Display,
@@ -57,7 +59,7 @@ pub enum Query {
 
 // What a line says. The record of a plan stands at the start of a lent buffer; its length is beside
 // the call, 0 for any other. `Wrong` has the fault's number.
-#[derive(Drop)]
+#[derive(Clone, Copy)]
 pub enum Order {
     Nothing,
     Call(Call, usize),

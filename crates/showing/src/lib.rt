@@ -1,5 +1,7 @@
 // A meter in plain words and units, as the program `replay` shows it, put at the start of a lent
 // buffer.
+#![tactic(auto)]
+
 ghost use Rattle.std.specs.Prelude.{◌+◌, ◌≤◌, length};
 ghost use Rattle.text.specs.Written.{Written};
 ghost use Rattle.place.specs.Place.{Placed};

@@ -1,5 +1,7 @@
 // Text that programs print, put into a lent buffer. Each function answers how many bytes it put;
 // what stands behind them in the buffer stays.
+#![tactic(auto)]
+
 ghost use Rattle.std.specs.Prelude.{◌≡◌, [], ◌∷◌, ◌++◌, ◌*◌, ◌≤◌, ◌<◌, length};
 ghost use Rattle.text.specs.Decimal.{decimal, signed, spaced};
 ghost use Rattle.text.specs.Hex.{glyph, hexadecimal};

@@ -1,4 +1,6 @@
 // A line of text taken apart: its content, its words, and the numbers and bytes that words write.
+#![tactic(auto)]
+
 ghost use Rattle.std.specs.Prelude.{◌≡◌, ◌+◌, ◌-◌, ◌*◌, ◌/◌, ◌≤◌, ◌<◌, min, length, take};
 ghost use Rattle.text.specs.Written.{Written};
 ghost use Rattle.words.specs.Words.{is_blank, trimmed, content, word_at, words_behind, has_gap, same};

@@ -1,5 +1,7 @@
 // Document 01 tried on meters: its worked sums, and each refusal number 0 to 27 with the meter
 // unchanged.
+#![tactic(auto)]
+
 mod calls; // calls.rt: each call on a meter, and whether it answers as it should
 mod count; // count.rt: the lines that are printed
 mod force; // force.rt: the record in force of two

@@ -6,7 +6,7 @@ use meter::{Call, Meter};
 pub const PASS: u32 = 1000;
 
 // The meter that a call left, and the number that it answered.
-#[derive(Drop)]
+#[derive(Clone, Copy)]
 pub struct Ran {
     pub meter: Meter,
     pub number: u32,
