@@ -1,7 +1,7 @@
 #!/usr/bin/env python3
 """Brings the repository's own definitions and lemmas from camel case to snake case:  tools/snake_names.py  (at the top, once).
 
-It collects the names that specs/ and proofs/ define with a small first letter and a capital within (`stampOf`), and writes each as
+It collects the names that specs/ and proofs/ define, and those of `use .. as NAME`, with a small first letter and a capital within (`stampOf`), and writes each as
 `stamp_of` in every .antt, .rt, .edit and .md file of the repository. Types, modules and names from Rust are left alone. It prints each new
 name that stood already in a file where the old one stood, so that a reader sees what fell together.
 """
@@ -12,6 +12,7 @@ import sys
 
 ROOT = os.path.dirname(os.path.dirname(os.path.abspath(__file__)))
 DEFINED = re.compile(r"^\s*(?:(?:abbrev|opaque|unfoldable|pub|instance|ruleset|syntax)\s+)*([a-z][A-Za-z0-9_'-]*)(?=\s|$)")
+ALIAS = re.compile(r"\bas ([a-z][A-Za-z0-9_]*)(?=\s|$|[,};])")
 HUMP = re.compile(r"(?<=[a-z0-9])([A-Z])")
 
 
@@ -38,9 +39,11 @@ def parts(name):
 
 def main():
     words = set()
-    for path in files(".antt"):
+    for path in files(".antt", ".rt"):
         for line in text(path).split("\n"):
-            m = DEFINED.match(line)
+            for alias in ALIAS.findall(line) if "use " in line else ():
+                words.update(parts(alias))
+            m = DEFINED.match(line) if path.endswith(".antt") else None
             if m and m[1] not in ("use", "mod", "module", "open", "where", "let", "in", "record", "data", "unfolding", "infixl", "infixr", "infix"):
                 words.update(parts(m[1]))
     if not words:

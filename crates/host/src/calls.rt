@@ -1,6 +1,6 @@
 // The seven calls, on a meter that the host keeps.
 ghost use Rattle.std.specs.Prelude.{◌≡◌};
-ghost use Rattle.meter.specs.Call.{pulses as pulsesCall, recharge as rechargeCall, load as loadCall, alarms as alarmsCall, command as commandCall, key as keyCall, tick as tickCall};
+ghost use Rattle.meter.specs.Call.{pulses as pulses_call, recharge as recharge_call, load as load_call, alarms as alarms_call, command as command_call, key as key_call, tick as tick_call};
 ghost use Rattle.meter.specs.Machine.{fresh_meter, outcome};
 ghost use Rattle.host.specs.Replies.{reply_of};
 
@@ -16,7 +16,7 @@ pub extern "C" fn harpdapple_fresh() -> Meter
 
 #[unsafe(no_mangle)]
 pub extern "C" fn harpdapple_pulses(meter: &mut Meter, call: Pulses) -> Reply
-    ensures { (meter.new ≡ (outcome meter.old (pulsesCall call)).meter) × (result ≡ reply_of (outcome meter.old (pulsesCall call)).done) }
+    ensures { (meter.new ≡ (outcome meter.old (pulses_call call)).meter) × (result ≡ reply_of (outcome meter.old (pulses_call call)).done) }
 {
     let r = (*meter).machine.pulses(&mut (*meter).held, call);
     (*meter).machine = r.machine;
@@ -25,7 +25,7 @@ pub extern "C" fn harpdapple_pulses(meter: &mut Meter, call: Pulses) -> Reply
 
 #[unsafe(no_mangle)]
 pub extern "C" fn harpdapple_recharge(meter: &mut Meter, call: Recharge) -> Reply
-    ensures { (meter.new ≡ (outcome meter.old (rechargeCall call)).meter) × (result ≡ reply_of (outcome meter.old (rechargeCall call)).done) }
+    ensures { (meter.new ≡ (outcome meter.old (recharge_call call)).meter) × (result ≡ reply_of (outcome meter.old (recharge_call call)).done) }
 {
     let r = (*meter).machine.recharge(&mut (*meter).held, call);
     (*meter).machine = r.machine;
@@ -34,7 +34,7 @@ pub extern "C" fn harpdapple_recharge(meter: &mut Meter, call: Recharge) -> Repl
 
 #[unsafe(no_mangle)]
 pub extern "C" fn harpdapple_load(meter: &mut Meter, call: Load, bytes: &[u8]) -> Reply
-    ensures { (meter.new ≡ (outcome meter.old (loadCall call bytes.now)).meter) × (result ≡ reply_of (outcome meter.old (loadCall call bytes.now)).done) }
+    ensures { (meter.new ≡ (outcome meter.old (load_call call bytes.now)).meter) × (result ≡ reply_of (outcome meter.old (load_call call bytes.now)).done) }
 {
     let r = (*meter).machine.load(&mut (*meter).held, call, bytes);
     (*meter).machine = r.machine;
@@ -43,7 +43,7 @@ pub extern "C" fn harpdapple_load(meter: &mut Meter, call: Load, bytes: &[u8]) -
 
 #[unsafe(no_mangle)]
 pub extern "C" fn harpdapple_alarms(meter: &mut Meter, call: Alarms) -> Reply
-    ensures { (meter.new ≡ (outcome meter.old (alarmsCall call)).meter) × (result ≡ reply_of (outcome meter.old (alarmsCall call)).done) }
+    ensures { (meter.new ≡ (outcome meter.old (alarms_call call)).meter) × (result ≡ reply_of (outcome meter.old (alarms_call call)).done) }
 {
     let r = (*meter).machine.alarms(&mut (*meter).held, call);
     (*meter).machine = r.machine;
@@ -52,7 +52,7 @@ pub extern "C" fn harpdapple_alarms(meter: &mut Meter, call: Alarms) -> Reply
 
 #[unsafe(no_mangle)]
 pub extern "C" fn harpdapple_command(meter: &mut Meter, call: Command) -> Reply
-    ensures { (meter.new ≡ (outcome meter.old (commandCall call)).meter) × (result ≡ reply_of (outcome meter.old (commandCall call)).done) }
+    ensures { (meter.new ≡ (outcome meter.old (command_call call)).meter) × (result ≡ reply_of (outcome meter.old (command_call call)).done) }
 {
     let r = (*meter).machine.command(&mut (*meter).held, call);
     (*meter).machine = r.machine;
@@ -61,7 +61,7 @@ pub extern "C" fn harpdapple_command(meter: &mut Meter, call: Command) -> Reply
 
 #[unsafe(no_mangle)]
 pub extern "C" fn harpdapple_key(meter: &mut Meter, call: Key) -> Reply
-    ensures { (meter.new ≡ (outcome meter.old (keyCall call)).meter) × (result ≡ reply_of (outcome meter.old (keyCall call)).done) }
+    ensures { (meter.new ≡ (outcome meter.old (key_call call)).meter) × (result ≡ reply_of (outcome meter.old (key_call call)).done) }
 {
     let r = (*meter).machine.key(&mut (*meter).held, call);
     (*meter).machine = r.machine;
@@ -70,7 +70,7 @@ pub extern "C" fn harpdapple_key(meter: &mut Meter, call: Key) -> Reply
 
 #[unsafe(no_mangle)]
 pub extern "C" fn harpdapple_tick(meter: &mut Meter, call: Tick) -> Reply
-    ensures { (meter.new ≡ (outcome meter.old (tickCall call)).meter) × (result ≡ reply_of (outcome meter.old (tickCall call)).done) }
+    ensures { (meter.new ≡ (outcome meter.old (tick_call call)).meter) × (result ≡ reply_of (outcome meter.old (tick_call call)).done) }
 {
     let r = (*meter).machine.tick(&mut (*meter).held, call);
     (*meter).machine = r.machine;

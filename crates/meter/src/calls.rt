@@ -1,5 +1,5 @@
 // The seven calls. Each: its refusals in document 01's order, the turn of the day, its effect.
-ghost use Rattle.meter.specs.Call.{pulses as pulsesCall, recharge as rechargeCall, load as loadCall, alarms as alarmsCall, command as commandCall, key as keyCall, tick as tickCall, call_of};
+ghost use Rattle.meter.specs.Call.{pulses as pulses_call, recharge as recharge_call, load as load_call, alarms as alarms_call, command as command_call, key as key_call, tick as tick_call, call_of};
 ghost use Rattle.meter.specs.Machine.{meter_of, Answers};
 
 use crate::{Alarms, Call, Command, Key, Load, Machine, Outcome, Pulses, Recharge, Tick, effects};
@@ -11,7 +11,7 @@ use records::held::Words;
 impl Machine {
     // Pulses, n of them. On the clock's own date no day turns.
     pub fn pulses(self, words: &mut Words, p: Pulses) -> Outcome
-        ensures { Answers (meter_of self words.old) (pulsesCall p) result words.new }
+        ensures { Answers (meter_of self words.old) (pulses_call p) result words.new }
     {
         let was = self.registers.slots.force(self.registers.clock.date);
         let d = self.registers.admit(words, was.slot != 0, p.stamp);
@@ -37,7 +37,7 @@ impl Machine {
 
     // A recharge bought at a counter.
     pub fn recharge(self, words: &mut Words, p: Recharge) -> Outcome
-        ensures { Answers (meter_of self words.old) (rechargeCall p) result words.new }
+        ensures { Answers (meter_of self words.old) (recharge_call p) result words.new }
     {
         let some = self.registers.slots.some_force(self.registers.clock.date);
         let d = self.registers.admit(words, some, p.stamp);
@@ -53,7 +53,7 @@ impl Machine {
 
     // A plan loaded into a slot; the record is a lent slice of any length.
     pub fn load(self, words: &mut Words, p: Load, bytes: &[u8]) -> Outcome
-        ensures { Answers (meter_of self words.old) (loadCall p bytes.now) result words.new }
+        ensures { Answers (meter_of self words.old) (load_call p bytes.now) result words.new }
     {
         let some = self.registers.slots.some_force(self.registers.clock.date);
         let d = self.registers.admit(words, some, p.stamp);
@@ -70,7 +70,7 @@ impl Machine {
 
     // The two alarms set, in whole yuan.
     pub fn alarms(self, words: &mut Words, p: Alarms) -> Outcome
-        ensures { Answers (meter_of self words.old) (alarmsCall p) result words.new }
+        ensures { Answers (meter_of self words.old) (alarms_call p) result words.new }
     {
         let some = self.registers.slots.some_force(self.registers.clock.date);
         let d = self.registers.admit(words, some, p.stamp);
@@ -85,7 +85,7 @@ impl Machine {
 
     // A command of the master station: 0 forbids, 1 allows.
     pub fn command(self, words: &mut Words, p: Command) -> Outcome
-        ensures { Answers (meter_of self words.old) (commandCall p) result words.new }
+        ensures { Answers (meter_of self words.old) (command_call p) result words.new }
     {
         let some = self.registers.slots.some_force(self.registers.clock.date);
         let d = self.registers.admit(words, some, p.stamp);
@@ -100,7 +100,7 @@ impl Machine {
 
     // The household's key.
     pub fn key(self, words: &mut Words, p: Key) -> Outcome
-        ensures { Answers (meter_of self words.old) (keyCall p) result words.new }
+        ensures { Answers (meter_of self words.old) (key_call p) result words.new }
     {
         let some = self.registers.slots.some_force(self.registers.clock.date);
         let d = self.registers.admit(words, some, p.stamp);
@@ -115,7 +115,7 @@ impl Machine {
 
     // The clock only.
     pub fn tick(self, words: &mut Words, p: Tick) -> Outcome
-        ensures { Answers (meter_of self words.old) (tickCall p) result words.new }
+        ensures { Answers (meter_of self words.old) (tick_call p) result words.new }
     {
         let some = self.registers.slots.some_force(self.registers.clock.date);
         let d = self.registers.admit(words, some, p.stamp);
