@@ -8,7 +8,7 @@ use borrow.Author.Tests.{leb-true, ltb-true, le-leb, eqb-true, eqb-false, not-tr
 use lib.Dec.{ltb, eqb}
 use lib.IntN.{pos, ◌+ℤ◌}
 use lib.Signed.{le_z}
-use Rattle.units.specs.Money.{Small, in_bounds, in_millionths, takes, highest_balance}
+use Rattle.units.specs.Money.{Small, in_bounds, in_millionths, highest_balance}
 use Rattle.units.proofs.Integers.{plus, le-true, lt-false, small-dn}
 use Rattle.units.proofs.Balance.{are-bounds, in_small, debit-in, credit-in}
 use Rattle.answer.specs.declared.Answer.TheVariants.{Accepted}

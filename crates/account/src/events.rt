@@ -38,6 +38,7 @@ impl Codes {
     }
 
     // One code more.
+    #[tactic(auto, unfolding(crate::specs::Codes::noted))]
     pub fn note(self, code: u32) -> Codes
         ensures { result ≡ noted self code }
     {
@@ -52,6 +53,7 @@ impl Codes {
     }
 
     // One code more where `given` holds.
+    #[tactic(auto, unfolding(crate::specs::Codes::note_all))]
     pub fn note_if(self, given: bool, code: u32) -> Codes
         ensures { result ≡ note_all self (code_if given code) }
     {

@@ -46,6 +46,7 @@ pub struct Fall {
 }
 
 // Refusal 23 unless this holds.
+#[tactic(auto, unfolding(crate::specs::Account::alarms_good))]
 pub fn alarms_good(one: u32, two: u32) -> bool
     ensures { result ≡ alarms_good one two }
 {
@@ -76,6 +77,7 @@ impl Account {
         }
     }
 
+    #[tactic(auto, unfolding(crate::specs::Account::is_fresh_account))]
     pub fn is_fresh(self) -> bool
         ensures { result ≡ is_fresh_account self }
     {
@@ -86,6 +88,7 @@ impl Account {
     }
 
     // The bounds of an account that a host hands in.
+    #[tactic(auto, unfolding(crate::specs::Account::account_good))]
     pub fn is_good(self, total: Hundredths) -> bool
         ensures { result ≡ account_good self total.0 }
     {
@@ -94,6 +97,7 @@ impl Account {
     }
 
     // Refusals 15 to 20, in their order.
+    #[tactic(auto, unfolding(crate::specs::Account::recharge_refusal))]
     pub fn vet(self, amount: TenThousandths, serial: u32) -> Answer
         requires small { Small self.balance.0 }
         requires serial_bound { self.serial ≤ 65535 }

@@ -19,6 +19,7 @@ impl Valve {
         }
     }
 
+    #[tactic(auto, unfolding(crate::specs::Valve::is_fresh_valve))]
     pub fn is_fresh(self) -> bool
         ensures { result ≡ is_fresh_valve self }
     {
@@ -49,6 +50,7 @@ impl Valve {
         next
     }
 
+    #[tactic(auto, unfolding(crate::specs::Codes::note_all, crate::specs::Valve::command_codes))]
     pub fn command_codes(self, allow: bool, codes: Codes) -> Codes
         ensures { result ≡ note_all codes (command_codes self allow) }
     {
@@ -57,6 +59,7 @@ impl Valve {
             .note_if(self.opened & !allow, Codes::VALVE_CLOSED)
     }
 
+    #[tactic(auto, unfolding(crate::specs::Valve::key_codes))]
     pub fn key_codes(self, codes: Codes) -> Codes
         ensures { result ≡ note_all codes (key_codes self) }
     {
@@ -81,6 +84,7 @@ pub(crate) fn sinks(was: Millionths, is: Millionths) -> bool
 
 impl Fall {
     // One threshold.
+    #[tactic(auto, unfolding(crate::specs::Codes::note_all, crate::specs::Fall::valve_after, crate::specs::Fall::mark_codes))]
     pub(crate) fn strike(self, hit: bool, code: u32, closes: bool) -> Fall
         ensures { result ≡ struck self hit code closes }
     {
