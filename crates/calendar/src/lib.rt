@@ -27,12 +27,14 @@ pub enum Dated {
     Refused(u8),
 }
 
+#[tactic(auto, unfolding(crate::specs::Date::is_leap))]
 fn is_leap(y: u32) -> bool
     ensures { result ≡ is_leap y }
 {
     y % 4 == 0
 }
 
+#[tactic(auto, unfolding(crate::specs::Date::days_in))]
 fn days_in(y: u32, m: u32) -> u32
     ensures { result ≡ days_in y m }
 {
@@ -43,18 +45,21 @@ fn days_in(y: u32, m: u32) -> u32
     }
 }
 
+#[tactic(auto, unfolding(crate::specs::Date::days_in))]
 fn february(y: u32) -> u32
     ensures { result ≡ days_in y 2 }
 {
     if is_leap(y) { 29 } else { 28 }
 }
 
+#[tactic(auto, unfolding(crate::specs::Date::is_day))]
 fn is_day(y: u32, m: u32, d: u32) -> bool
     ensures { result ≡ is_day y m d }
 {
     1 <= m && (m <= 12 && (1 <= d && d <= days_in(y, m)))
 }
 
+#[tactic(auto, unfolding(crate::specs::Date::is_date))]
 pub fn is_date(d: u32) -> bool
     ensures { result ≡ is_date d }
 {
@@ -64,6 +69,7 @@ pub fn is_date(d: u32) -> bool
 impl Stamp {
     pub const LAST_SECOND: u32 = 86_399;
 
+    #[tactic(auto, unfolding(crate::specs::Stamp::is_stamp))]
     pub fn is_stamp(self) -> bool
         ensures { result ≡ is_stamp self }
     {
@@ -71,6 +77,7 @@ impl Stamp {
     }
 
     // The date, or refusal 8.
+    #[tactic(auto, unfolding(crate::specs::Stamp::dated))]
     pub fn read(self) -> Dated
         ensures { result ≡ dated self }
     {
@@ -82,6 +89,7 @@ impl Stamp {
     }
 
     // Whether `next` is not before this stamp.
+    #[tactic(auto, unfolding(crate::specs::Stamp::not_before))]
     pub fn reaches(self, next: Stamp) -> bool
         ensures { result ≡ not_before self next }
     {
@@ -93,6 +101,7 @@ impl Stamp {
 }
 
 // The days of the months before month m in the year y.
+#[tactic(auto, unfolding(crate::specs::DayNumber::days_of_months))]
 fn days_before(y: u32, m: u32) -> u32
     requires le_m { 1 ≤ m }
     requires m_bound { m ≤ 12 }
@@ -113,6 +122,7 @@ fn years_before(k: u32) -> u32
     365 * k + (k + 3) / 4
 }
 
+#[tactic(auto, unfolding(crate::specs::DayNumber::day_number))]
 pub fn day_number(d: u32) -> u32
     requires { is_date d ≡ true }
     ensures { result ≡ day_number d }
@@ -121,6 +131,7 @@ pub fn day_number(d: u32) -> u32
     years_before(y - 2000) + (days_before(y, d / 100 % 100) + (d % 100 - 1))
 }
 
+#[tactic(auto, unfolding(crate::specs::Cycle::month_start))]
 pub fn month_start(d: u32) -> u32
     ensures { result ≡ month_start d }
 {
@@ -138,12 +149,14 @@ fn quarter_month(m: u32) -> u32
     }
 }
 
+#[tactic(auto, unfolding(crate::specs::Cycle::quarter_start))]
 pub fn quarter_start(d: u32) -> u32
     ensures { result ≡ quarter_start d }
 {
     d / 10_000 * 10_000 + (quarter_month(d / 100 % 100) * 100 + 1)
 }
 
+#[tactic(auto, unfolding(crate::specs::Cycle::year_start))]
 pub fn year_start(d: u32) -> u32
     ensures { result ≡ year_start d }
 {
@@ -151,6 +164,7 @@ pub fn year_start(d: u32) -> u32
 }
 
 // The first date of the calendar cycle of a cycle word, 0 for a word that has none.
+#[tactic(auto, unfolding(crate::specs::Cycle::cycle_start))]
 pub fn cycle_start(word: u8, d: u32) -> u32
     ensures { result ≡ cycle_start word d }
 {
@@ -163,6 +177,7 @@ pub fn cycle_start(word: u8, d: u32) -> u32
 }
 
 // Which run of n days from `first` a date lies in: 0 before it, then 1, 2, ..
+#[tactic(auto, unfolding(crate::specs::Cycle::run_of))]
 pub fn run_of(first: u32, n: u32, d: u32) -> u32
     requires first_value { is_date first ≡ true }
     requires d_value { is_date d ≡ true }

@@ -12,6 +12,7 @@ pub fn pair(b: u8) -> u32
 }
 
 // Whether neither digit is above 9.
+#[tactic(auto, unfolding(crate::specs::Digits::two_digits))]
 pub fn two_digits(b: u8) -> bool
     ensures { result ≡ two_digits b }
 {
