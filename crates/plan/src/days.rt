@@ -26,6 +26,7 @@ fn earlier(a: u32, b: u32) -> u32
 }
 
 impl Plan {
+    #[tactic(auto, unfolding(crate::specs::Force::in_force))]
     pub fn in_force(self, d: u32) -> bool
         ensures { result ≡ in_force self d }
     {
@@ -38,6 +39,7 @@ impl Plan {
         in_period(self.first, self.second, d)
     }
 
+    #[tactic(auto, unfolding(crate::specs::Force::first_day))]
     fn first_day(self) -> u32
         ensures { result ≡ first_day self }
     {
@@ -47,6 +49,7 @@ impl Plan {
         self.start
     }
 
+    #[tactic(auto, unfolding(crate::specs::Force::end_day))]
     fn end_day(self) -> u32
         ensures { result ≡ end_day self }
     {
@@ -57,6 +60,7 @@ impl Plan {
     }
 
     // Whether some date on or after `d` is in force under both plans.
+    #[tactic(auto, unfolding(crate::specs::Force::meet))]
     pub fn meets(self, other: Plan, d: u32) -> bool
         ensures { result ≡ meet self other d }
     {
@@ -65,6 +69,7 @@ impl Plan {
     }
 
     // The cycle that a date lies in, by a number that tells the plan's cycles apart.
+    #[tactic(auto, unfolding(crate::specs::Cycles::cycle_of))]
     pub fn cycle_of(self, d: u32) -> u32
         requires self_value { is_good self ≡ true }
         requires d_value { is_date d ≡ true }

@@ -15,18 +15,21 @@ struct Pairs {
 }
 
 impl Plan {
+    #[tactic(auto, unfolding(crate::specs::Rules::steps_good))]
     fn steps_good(self) -> bool
         ensures { result ≡ steps_good self }
     {
         (1 <= self.steps) & (self.steps as usize <= Plan::MOST_STEPS)
     }
 
+    #[tactic(auto, unfolding(crate::specs::Rules::word_good))]
     fn word_good(self) -> bool
         ensures { result ≡ word_good self }
     {
         (self.steps < 2) | ((1 <= self.word) & (self.word <= 5))
     }
 
+    #[tactic(auto, unfolding(crate::specs::Rules::every, crate::specs::Rules::priced))]
     fn pairs(self) -> Pairs
         requires { self.steps ≤ most_steps }
         ensures { (result.digits ≡ every (pair_good self) self.steps) × (result.priced ≡ priced self) }
@@ -55,6 +58,7 @@ impl Plan {
     }
 
     // `pairs`: the numbers of the n pairs pass.
+    #[tactic(auto, unfolding(crate::specs::Rules::numbers_good))]
     fn numbers_good(self, pairs: bool) -> bool
         requires { pairs ≡ every (pair_good self) self.steps }
         ensures { result ≡ numbers_good self }
@@ -76,12 +80,14 @@ impl Plan {
         true
     }
 
+    #[tactic(auto, unfolding(crate::specs::Rules::dates_good))]
     fn dates_good(self) -> bool
         ensures { result ≡ dates_good self }
     {
         calendar::is_date(self.start) && (calendar::is_date(self.end) && self.extra_dates_good())
     }
 
+    #[tactic(auto, unfolding(crate::specs::Rules::some_day))]
     fn some_day(self) -> bool
         ensures { result ≡ some_day self }
     {
@@ -100,6 +106,7 @@ impl Plan {
     }
 
     // Refusals 2 to 7, in their order.
+    #[tactic(auto, unfolding(crate::specs::Rules::verdict))]
     pub fn vet(self) -> Answer
         ensures { result ≡ verdict self }
     {
@@ -126,6 +133,7 @@ impl Plan {
     }
 
     // Whether none of them refuses the plan.
+    #[tactic(auto, unfolding(crate::specs::Rules::is_good))]
     pub fn is_good(self) -> bool
         ensures { result ≡ is_good self }
     {
