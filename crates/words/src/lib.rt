@@ -7,6 +7,7 @@ ghost use Rattle.words.specs.Words.{is_blank, trimmed, content, word_at, words_b
 ghost use Rattle.words.specs.Numbers.{is_digit, is_number, are_numbers, value_of, wide_at, narrow_at};
 ghost use Rattle.words.specs.Hex.{is_capital, is_small, is_hex_digit, is_hex, digit_value, pair_at, bytes_of};
 
+#[tactic(auto, unfolding(crate::specs::Words::is_blank))]
 fn is_blank(x: u8) -> bool
     ensures { result ≡ is_blank x }
 {
@@ -29,6 +30,7 @@ fn trim(s: &[u8]) -> usize
 }
 
 // The content of a line.
+#[tactic(auto, unfolding(crate::specs::Words::content))]
 pub fn content(line: &[u8]) -> &[u8]
     ensures { result.now ≡ content line.now }
 {
@@ -96,6 +98,7 @@ pub fn same(a: &[u8], b: &[u8]) -> bool
     true
 }
 
+#[tactic(auto, unfolding(crate::specs::Numbers::is_digit))]
 fn is_digit(x: u8) -> bool
     ensures { result ≡ is_digit x }
 {
@@ -167,6 +170,7 @@ fn value(w: &[u8]) -> u64
 }
 
 // The number in word k, at 64 bits.
+#[tactic(auto, unfolding(crate::specs::Numbers::wide_at))]
 pub fn wide_at(s: &[u8], k: usize) -> u64
     ensures { result ≡ wide_at s.now k }
 {
@@ -174,6 +178,7 @@ pub fn wide_at(s: &[u8], k: usize) -> u64
 }
 
 // The number in word k, at 32 bits.
+#[tactic(auto, unfolding(crate::specs::Numbers::narrow_at))]
 pub fn narrow_at(s: &[u8], k: usize) -> u32
     ensures { result ≡ narrow_at s.now k }
 {
@@ -184,18 +189,21 @@ pub fn narrow_at(s: &[u8], k: usize) -> u32
     v as u32
 }
 
+#[tactic(auto, unfolding(crate::specs::Hex::is_capital))]
 fn is_capital(x: u8) -> bool
     ensures { result ≡ is_capital x }
 {
     65 <= x && x <= 70
 }
 
+#[tactic(auto, unfolding(crate::specs::Hex::is_small))]
 fn is_small(x: u8) -> bool
     ensures { result ≡ is_small x }
 {
     97 <= x && x <= 102
 }
 
+#[tactic(auto, unfolding(crate::specs::Hex::is_hex_digit))]
 fn is_hex_digit(x: u8) -> bool
     ensures { result ≡ is_hex_digit x }
 {
@@ -219,6 +227,7 @@ pub fn is_hex(w: &[u8]) -> bool
     true
 }
 
+#[tactic(auto, unfolding(crate::specs::Hex::digit_value))]
 fn digit_value(x: u8) -> u8
     ensures { (result ≡ digit_value x) × (result < 16) }
 {
@@ -234,6 +243,7 @@ fn digit_value(x: u8) -> u8
     0
 }
 
+#[tactic(auto, unfolding(crate::specs::Hex::pair_at))]
 fn pair_at(w: &[u8], k: usize) -> u8
     requires { 2 * k + 1 < length w.now }
     ensures { result ≡ pair_at w.now k }
