@@ -5,11 +5,36 @@ import re
 ROOT = os.path.dirname(os.path.dirname(os.path.abspath(__file__)))
 PROGRAMS = ('calendar_check', 'plan_printer', 'replay', 'worked_sums')
 TWICE = ('host', 'account', 'records', 'slots', 'book')
+PROGRAM = 'src/main.rt'
 HEAD = re.compile(r'^( *)(pub(?:\(\w+\))? )?(?:extern "C" )?fn (\w+)', re.M)
 
 
 def read(crate, place):
     return open(os.path.join(ROOT, 'crates', crate, place), encoding='utf-8').read()
+
+
+class Line:
+    """A line of crates.txt: what a crate uses, and whether it is a static library."""
+
+    def __init__(self, text):
+        head, _, uses = text.partition(':')
+        self.name, self.is_static, self.uses = head.split()[0], 'staticlib' in head.split()[1:], uses.split()
+
+
+def listed():
+    lines = [line.split('#')[0] for line in open(os.path.join(ROOT, 'crates.txt'), encoding='utf-8')]
+    return {line.name: line for line in (Line(text) for text in lines if ':' in text)}
+
+
+LISTED = listed()
+
+
+def below(name):
+    """The crates that a crate stands on, each once."""
+    found = []
+    for dep in LISTED[name].uses:
+        found += [it for it in below(dep) + [dep] if it not in found]
+    return found
 
 
 class Function:
@@ -23,24 +48,21 @@ class Function:
         self.folder = '/'.join(['proofs'] + owner + [head.group(3)])
         if not os.path.isdir(os.path.join(ROOT, 'crates', crate, self.folder)):
             self.folder = '/'.join(['proofs'] + owner + ['+' + head.group(3)])  # of one that calls itself
-        self.proof = self.folder + '/Proof.antt'
         self.begin, self.end = head.start(), text.find('\n' + head.group(1) + '}\n', head.end())
         self.body = text.find('\n' + head.group(1) + '{\n', head.end()) + 1
         self.lines = range(text.count('\n', 0, self.begin) + 1, text.count('\n', 0, self.end) + 3)
         self.public = head.group(2) == 'pub '
         self.promises = 'ensures' in text[self.begin:self.body]
-        self.written = os.path.exists(os.path.join(ROOT, 'crates', crate, self.proof))
-        proof = read(crate, self.proof) if self.written else ''
-        self.walked = self.written and not re.search(r'\b(tie|walk)\.spec\b', proof)
-        self.whole = self.written and not re.search(r'^returns', proof, re.M)
+        self.names = set(re.findall(r'\b(\w+)\(', text[self.body:self.end]))
 
 
 class Crate:
     """A crate: its functions, its edits, and who names a function."""
 
     def __init__(self, name):
-        self.name, self.functions, self.texts = name, [], {}
+        self.name, self.functions, self.texts, self.reach = name, [], {}, {}
         base = os.path.join(ROOT, 'crates', name)
+        self.root = PROGRAM if os.path.exists(os.path.join(base, PROGRAM)) else 'src/lib.rt'
         for part in ('src', 'proofs'):
             for folder, _, files in os.walk(os.path.join(base, part)):
                 for file in sorted(files):
@@ -57,6 +79,22 @@ class Crate:
         word = re.compile(r'\b%s\b' % function.name.split('::')[-1])
         return not any(len(word.findall(text)) > (place == function.place)
                        for place, text in self.texts.items() if not place.startswith(function.folder + '/'))
+
+    def reached(self, function):
+        """The last names of what a function calls, and of what that calls, in the crate."""
+        if function.name not in self.reach:
+            found, left = set(), [function]
+            while left:
+                for name in left.pop().names - found:
+                    found.add(name)
+                    left += [other for other in self.functions if other.name.split('::')[-1] == name]
+            self.reach[function.name] = found
+        return self.reach[function.name]
+
+    def apart(self, one, other):
+        """Whether neither function calls the other, so that the check tells their edits apart."""
+        last = lambda function: function.name.split('::')[-1]
+        return one is not other and last(other) not in self.reached(one) and last(one) not in self.reached(other)
 
     def named(self, name):
         found = [f for f in self.functions if f.name == name] or [f for f in self.functions if f.name.split('::')[-1] == name]

@@ -1,27 +1,23 @@
 #!/usr/bin/env python3
 """Tries the wrong answers under crates/*/wrong: edits in the form of rt's must-fail ones, each of which the prover must refuse.
 
-  tests/wrong.py [--after-ci] [--list] [CRATE..]    in the repository, after `rt check` or `rt ci`
+  tests/wrong.py [--list] [CRATE..]    in the repository, after `rt ci` or `rt all check`
 
-`rt must-fail` proves the whole crate again for each edit. Here an edit is checked over an incremental folder that is filled
-with the modules that `rt ci` or `rt check` proved and wrote into the crate's rlib, so that only what the edit touches is
-checked again. What was proved before is trusted; a refusal is the prover's own.
+`rt must-fail` checks the whole crate for each edit. Here edits of different functions share a check: a function is proved by its own
+contract and those of what it calls, and a body changes no contract; nor does the promise of a function that nothing else in its crate
+names. Edits of functions of which one calls the other share none. Such an edit counts if the proof of its own function is refused. Every
+other edit, of a definition or of a contract that others use, has a run to itself. Each run begins with what one check of the crate as it
+stands has proved, so only what the edit touches is checked again; the libraries below are those that `rt ci` or `rt check` has built.
 
-Edits of different functions share a run: a function is proved by its own contract and those of what it calls, and a body
-changes no contract; nor does the promise of a function that nothing else in its crate names. Such an edit counts if a
-declaration in the proof of its own function is refused, and not only because something that it cites is not proved; where
-that is all, it is tried again by itself. Every other edit, of a definition or of a contract that others use, has a run to itself.
+A refusal shows something only if it stops at a fact. An edit fails if its first error is in specs/ or in a contract, or is a name that
+is out of scope. The edits under must-fail/ are held to the same.
 
-A refusal shows something only if it stops at a fact. An edit fails if its first error is in specs/, is a name out of scope or
-a type error in a contract, or if it changes which operations a body has, so that the list of answers in its proof no longer
-fits. The logs that `rt ci` left of the edits under must-fail/ are held to the same (--after-ci: they must be there).
+An edit stands for the function that it changes; a line `for: name name` names others whose contract it makes false, each of which the
+prover must leave unproved. Every public contract of a library has a wrong answer, those of the crates in TWICE have two; programs
+without edits are named in PROGRAMS (tests/edits.py). --list counts them and tries nothing.
 
-An edit stands for the function that it changes; a line `for: name name` names others whose contract it makes false, each of
-which the prover must leave unproved. Every public contract of a library has a wrong answer, those of the crates in TWICE have
-two; programs without edits are named in PROGRAMS (tests/edits.py). --list counts them and tries nothing.
-
-As many runs go on at a time as there are processors (or WRONG_JOBS), the longest first. target/wrong/CRATE/ has the logs,
-target/wrong/tally how many passed and failed. The last line counts them.
+As many runs go on at a time as there are processors (or WRONG_JOBS). target/wrong/CRATE/ has the logs, target/wrong/tally how many
+passed and failed. The last line counts them.
 """
 import concurrent.futures
 import os
@@ -32,41 +28,67 @@ import sys
 import time
 
 sys.dont_write_bytecode = True
-from edits import Crate, ROOT, edited, lacking
+from edits import Crate, LISTED, ROOT, below, edited, lacking
 
 ALL = os.path.join(ROOT, 'target', 'wrong')
-# the operations of a body that its proof has an answer for
-ANSWERED = re.compile(r'\((?:op2 \((?:add|sub|mul|shl|shr)\b|op1 \((?:cast (?!unsigned unsigned 64)\w+ \w+ \d+|neg)|op2 offset|'
-                      r'call|loop|if|switch|match)|\breturn\b')
-NAMELESS = re.compile('is not in scope|that can be named from here|has no field|unknown-name')
-ADMITTED = re.compile('was not admitted|because it was not')
+NAMELESS = re.compile('is not in scope|that can be named from here|has no field|has no `|unknown-name|is no name|cannot continue|expected the end')
+ADMITTED = re.compile('was not admitted|because it was not|was rejected, was not checked|exports no `')
+# a place, and what stands there
+PLACED = re.compile(r'(note: )?(?:\./)?((?:src|specs|proofs)/[^\s:]+):(\d+):\d+:(.*)')
 
 
-def reached(crate, name, seen):
-    """Adds to `seen` the functions that one calls, and that they call."""
-    for callee in re.findall(r'fnRef "([^"]+)"', crate.mir.get(name, '')):
-        if callee not in seen:
-            seen.add(callee)
-            reached(crate, callee, seen)
-    return seen
+def kit():
+    """The folder of the kit, where its first page lies."""
+    page = subprocess.run(['rt', 'doc'], capture_output=True, text=True, check=True).stdout.split()[0]
+    return os.path.dirname(page)
 
 
-def apart(crate, one, other):
-    """Whether edits of two functions can be told apart: the proof of a caller in one piece falls with that of what it calls."""
-    full = lambda function: crate.name + '::' + function.name
-    falls = lambda caller, callee: caller.whole and full(callee) in reached(crate, full(caller), set())
-    return one is not other and not falls(one, other) and not falls(other, one)
+def checked(crate, room, kept):
+    """Checks the crate as it stands in `room`, over the modules in `kept`; the status and what the prover said."""
+    name, words = crate.name, ['--crate-name', crate.name, crate.root]
+    words += ['--extern', f'std={KIT}/rlibs/std.rlib', '-L', f'dependency={KIT}/rlibs']
+    for dep in LISTED[name].uses:
+        words += ['--extern', f'{dep}={ROOT}/crates/{dep}/out/rlib/{dep}.rlib']
+    for dep in below(name):
+        words += ['-L', f'dependency={ROOT}/crates/{dep}/out/rlib']
+    words += ['--antt-project', f'{KIT}/rattle/logic/antt-project.json', '--logic-built', f'{KIT}/logic_built', '--incremental', kept]
+    words += ['--jobs', '1', '--links', f'{name}='] + (['--crate-type', 'staticlib'] if LISTED[name].is_static else [])
+    if LISTED[name].is_static or crate.root.endswith('main.rt'):
+        words += [word for dep in below(name) for word in ('--links', f'{dep}=')]
+    done = subprocess.run([f'{KIT}/bin/rattle', 'check', *words], cwd=room, capture_output=True, text=True, errors='replace')
+    return done.returncode, done.stdout + done.stderr
+
+
+def copied(crate, texts, room):
+    for part in ('src', 'specs', 'proofs'):
+        if os.path.isdir(os.path.join(ROOT, 'crates', crate.name, part)):
+            shutil.copytree(os.path.join(ROOT, 'crates', crate.name, part), os.path.join(room, part))
+    for place, text in texts.items():
+        with open(os.path.join(room, place), 'w', encoding='utf-8') as out:
+            out.write(text)
+
+
+def seed(crate):
+    """Proves the crate as it stands into the folder that its runs begin with; whether it is proved, and how long that took."""
+    began, base = time.time(), os.path.join(ALL, crate.name)
+    copied(crate, {}, os.path.join(base, 'room'))
+    status, said = checked(crate, os.path.join(base, 'room'), os.path.join(base, 'seed'))
+    shutil.rmtree(os.path.join(base, 'room'))
+    with open(os.path.join(base, 'seed.log'), 'w', encoding='utf-8') as out:
+        out.write(said)
+    crate.weight = time.time() - began
+    return status == 0
 
 
 def runs_of(crate):
-    """The edits under wrong/ of a crate, gathered into runs."""
+    """The edits of a crate, gathered into runs."""
     alone, shared = [], []
-    for edit in crate.edits['wrong']:
+    for edit in crate.edits['must-fail'] + crate.edits['wrong']:
         if edit.function is None or edit.whole or edited([edit]) is None:
             alone.append([edit])
             continue
         for run in shared:
-            if all(apart(crate, edit.function, other.function) for other in run) and edited(run + [edit]):
+            if all(crate.apart(edit.function, other.function) for other in run) and edited(run + [edit]):
                 run.append(edit)
                 break
         else:
@@ -74,189 +96,114 @@ def runs_of(crate):
     return shared + alone
 
 
-def room_for(crate, texts, room, checked):
-    """A folder with the crate as edited, and all else as it stands."""
-    name = crate.name
-    os.makedirs(os.path.join(room, 'crates', name))
-    os.makedirs(os.path.join(room, 'target', 'log'))
-    for other in os.listdir(os.path.join(ROOT, 'crates')):
-        if other != name:
-            os.symlink(os.path.join(ROOT, 'crates', other), os.path.join(room, 'crates', other))
-    for part in ('src', 'specs', 'proofs'):
-        if os.path.isdir(os.path.join(ROOT, 'crates', name, part)):
-            shutil.copytree(os.path.join(ROOT, 'crates', name, part), os.path.join(room, 'crates', name, part))
-    shutil.copy(os.path.join(ROOT, 'crates.txt'), room)
-    shutil.copytree(os.path.join(ROOT, 'target', 'stamp'), os.path.join(room, 'target', 'stamp'))
-    os.symlink(os.path.join(ROOT, 'target', 'rlib'), os.path.join(room, 'target', 'rlib'))
-    if checked:
-        shutil.copytree(os.path.join(ROOT, 'target', 'rlib', name + '.rlib', 'toolchain', 'checked'),
-                        os.path.join(room, 'target', 'inc', name, BUILT))
-    for place, text in texts.items():
-        open(os.path.join(room, 'crates', name, place), 'w', encoding='utf-8').write(text)
+def own(edit, place, row):
+    """Whether a place is in the proof or the text of the edit's own function."""
+    function = edit.function
+    return place.startswith(function.folder + '/') or place == function.place and row in function.lines
 
 
-def bodies(crate, where):
-    """The MIR of each function of a crate, by its name in the log."""
-    mir = subprocess.run(['rt', 'mir', crate.name], cwd=where, capture_output=True, text=True).stdout
-    return {part.split('"', 1)[0]: part for part in mir.split('(fn-def "')[1:]}
+def first_error(log, edit, shared):
+    """The place and the text of the edit's first error; in a shared run, the first of its own function's."""
+    fallback = None
+    for line in log.split('\n'):
+        found = PLACED.match(line)
+        if found and (found[1] or found[4].startswith(' error')) and not ADMITTED.search(found[4]):
+            if not shared or own(edit, found[2], int(found[3])):
+                return '%s:%s' % (found[2], found[3]), found[4]
+        goal = re.match(r'note: `([^`]+)` of (proofs/\S+?) must prove: (.*)', line)
+        if goal and fallback is None and (not shared or goal[2].startswith(edit.function.folder + '/')):
+            fallback = goal[2] + ' ' + goal[1], goal[3]
+    return fallback
 
 
-def unedited(crate):
-    """The same of the crate as it stands. No run is made in the repository itself, where other tests may be at work."""
-    room = os.path.join(ALL, crate.name, 'room')
-    room_for(crate, {}, room, False)
-    mir = bodies(crate, room)
-    shutil.rmtree(room)
-    return mir
-
-
-def misfits(edit, before, after):
-    """Whether the edit changes what the written proof of its function has an answer for."""
-    for function in edit.changed:
-        name = edit.crate.name + '::' + function.name
-        if function.written and name in before:
-            was, now = before[name], after.get(name, '')
-            if was != now if function.walked else ANSWERED.findall(was) != ANSWERED.findall(now):
-                return True
-    return False
-
-
-def verdict(edit, log, shared, before, after):
+def verdict(edit, log, shared):
     """What is wrong with the refusal, or None, and the place of the first error."""
     first = first_error(log, edit, shared)
-    if 'logic=not-proved' not in log or not first:
+    if not re.search(r'^logic=not-proved', log, re.M) or not first:
         return 'NOT REFUSED by the prover', ''
     place, said = first
     if place.startswith('specs/'):
         return 'SHOWS NOTHING: its first error is in a definition', place
     if NAMELESS.search(said):
-        return 'SHOWS NOTHING: its first error is a name out of scope, a missing need or field', place
-    if place.startswith('src/') and re.search(r'`(ensures|requires)-\d+`', said):
+        return 'SHOWS NOTHING: its first error is a name out of scope, a missing goal or field', place
+    if place.startswith('src/') and ' error' in said[:7]:
         return 'SHOWS NOTHING: its first error is in a contract', place
-    if misfits(edit, before, after):
-        return 'SHOWS NOTHING: the list of answers of its proof no longer fits', place
     proved = set(re.findall(r'^fn %s::(\S+): proved' % edit.crate.name, log, re.M))
     stray = [function.name for function in edit.stands if function.name in proved]
     return ('SHOWS NOTHING of %s, which is still proved' % ' '.join(stray) if stray else None), place
 
 
-def first_error(log, edit, shared):
-    """The place and the text of the edit's first error; in a shared run, the first of its own function's proof."""
-    for line in log.split('\n'):
-        found = re.match(r'(note: (?:what antt said of .*?: )?)?\S*?/((?:src|specs|proofs)/\S+?):(\d+)(:\d+:)(.*)', line)
-        if not found or not (found.group(1) or found.group(5).startswith(' error')) or ADMITTED.search(found.group(5)):
-            continue
-        place, row, said = found.group(2), int(found.group(3)), found.group(5)
-        own = edit.function and (place == edit.function.proof or place == edit.function.place and row in edit.function.lines)
-        if own or not shared:
-            return '%s:%d%s' % (place, row, found.group(4)[:-1]), said
-    return None
-
-
-def tried(number, run):
+def tried(run, number):
     """Makes one run in a room of its own, and answers a line for each edit."""
     crate, began = run[0].crate, time.time()
-    said = lambda edit, what: 'wrong %s/%s: %s' % (crate.name, edit.label, what)
+    said = lambda edit, what: '%s %s/%s: %s' % (edit.kind, crate.name, edit.label, what)
     texts = edited(run)
     if texts is None or any(edit.whole for edit in run):
         return [said(edit, edit.whole or 'BAD EDIT: an old text is not in its file, or is in it more than once') for edit in run]
-    room = os.path.join(ALL, crate.name, 'room%d' % number)
-    log = os.path.join(ALL, crate.name, run[0].label + ('+%d.log' % (len(run) - 1) if len(run) > 1 else '.log'))
-    room_for(crate, texts, room, True)
-    done = subprocess.run(['rt', 'dev', crate.name], cwd=room, capture_output=True, text=True)
-    said_all = done.stdout + done.stderr
-    after = bodies(crate, room)
-    open(log, 'w', encoding='utf-8').write(said_all)
+    base = os.path.join(ALL, crate.name)
+    room = os.path.join(base, 'room%d' % number)
+    copied(crate, texts, room)
+    shutil.copytree(os.path.join(base, 'seed'), os.path.join(room, 'kept'), copy_function=os.link)
+    status, log = checked(crate, room, os.path.join(room, 'kept'))
     shutil.rmtree(room)
-    took = time.time() - began
-    loaded = re.search(r'^crate %s: modules loaded=(\d+)' % crate.name, said_all, re.M)
-    lines = []
+    where = os.path.join(base, run[0].label + ('+%d.log' % (len(run) - 1) if len(run) > 1 else '.log'))
+    with open(where, 'w', encoding='utf-8') as out:
+        out.write(log)
+    took, lines = time.time() - began, []
     for edit in run:
-        bad, place = verdict(edit, said_all, len(run) > 1, crate.mir, after)
-        if len(run) > 1 and not place and done.returncode == 1:
-            lines += tried(number, [edit])
+        bad, place = verdict(edit, log, len(run) > 1)
+        if len(run) > 1 and status == 1 and bad:
+            lines += tried([edit], number)
             continue
-        if done.returncode != 1 or not loaded or loaded.group(1) == '0':
-            bad = 'NOT REFUSED by the prover (exit %d)' % done.returncode
+        if status != 1:
+            bad = 'NOT REFUSED by the prover (exit %d)' % status
         good = 'refused, as it must be (first at %s; %d s for %d)' % (place, took, len(run))
-        lines.append(said(edit, '%s (%s)' % (bad, log) if bad else good))
+        lines.append(said(edit, '%s (%s)' % (bad, os.path.relpath(where, ROOT)) if bad else good))
     return lines
 
 
-def looked_at(edit):
-    """Holds the log that rt left of an edit under must-fail/ to the same; a line where it shows nothing."""
-    where = os.path.join(ROOT, 'target', 'must-fail', edit.crate.name, edit.label)
-    texts = edited([edit])
-    if edit.whole or texts is None or not os.path.exists(where + '/.log'):
-        return 'must-fail %s/%s: %s' % (edit.crate.name, edit.label, edit.whole or 'NOT TRIED: rt has left no log of it')
-    room = where + '.room'
-    shutil.rmtree(room, ignore_errors=True)
-    room_for(edit.crate, texts, room, False)
-    after = bodies(edit.crate, room)
-    shutil.rmtree(room)
-    bad, _ = verdict(edit, open(where + '/.log', encoding='utf-8').read(), False, edit.crate.mir, after)
-    return 'must-fail %s/%s: %s (%s/.log)' % (edit.crate.name, edit.label, bad, where) if bad else None
-
-
-def built():
-    """The name of the folder that the prover reads, which is that of its build."""
-    room = os.path.join(ALL, 'built')
-    shutil.copytree(os.path.join(ROOT, 'crates'), os.path.join(room, 'crates'))
-    shutil.copy(os.path.join(ROOT, 'crates.txt'), room)
-    subprocess.run(['rt', 'dev', 'answer'], cwd=room, capture_output=True)
-    return os.listdir(os.path.join(room, 'target', 'inc', 'answer'))[0]
-
-
-def prove(crates):
-    named = [crate.name for crate in crates if crate.edits['wrong']]
-    done = subprocess.run(['rt', 'check'] + named, cwd=ROOT, capture_output=True, text=True)
-    if done.returncode != 0:
-        sys.exit('wrong: NOT TRIED: a crate is not proved as it stands\n' + done.stdout[-2000:] + done.stderr[-2000:])
-
-
-def weight(run):
-    """How long a run may take, by the size of what was proved of its crate; one of a definition takes longer."""
-    folder = os.path.join(ROOT, 'target', 'rlib', run[0].crate.name + '.rlib', 'toolchain', 'checked')
-    size = sum(entry.stat().st_size for entry in os.scandir(folder))
-    return size * (2 if run[0].function is None else 1)
-
-
 def main(words):
-    names = [line.split(':')[0].strip() for line in open(os.path.join(ROOT, 'crates.txt'), encoding='utf-8') if ':' in line.split('#')[0]]
-    chosen = [word for word in words if not word.startswith('--')] or names
+    chosen = [word for word in words if not word.startswith('--')] or list(LISTED)
     crates = [Crate(name) for name in chosen]
     amiss = [line for crate in crates for line in lacking(crate)]
     print('\n'.join(amiss) + '\n' if amiss else '', end='', flush=True)
     if '--list' in words:
         return 1 if amiss else 0
-    if '--after-ci' not in words:
-        prove(crates)
     shutil.rmtree(ALL, ignore_errors=True)
+    crates = [crate for crate in crates if any(crate.edits.values())]
     for crate in crates:
         os.makedirs(os.path.join(ALL, crate.name))
-        crate.mir = unedited(crate) if any(crate.edits.values()) else {}
-    global BUILT
-    BUILT = built()
-    runs = sorted((run for crate in crates for run in runs_of(crate)), key=weight, reverse=True)
-    wanted, refused, unshown = sum(map(len, runs)), 0, 0
-    with open(os.path.join(ALL, 'all.txt'), 'w', encoding='utf-8') as out, concurrent.futures.ThreadPoolExecutor(JOBS) as pool:
-        for made in concurrent.futures.as_completed([pool.submit(tried, number, run) for number, run in enumerate(runs)]):
-            for line in made.result():
-                refused += 'refused, as it must be' in line
-                print(line, flush=True)
-                out.write(line + '\n')
-        if '--after-ci' in words or os.path.isdir(os.path.join(ROOT, 'target', 'must-fail')):
-            for line in pool.map(looked_at, [edit for crate in crates for edit in crate.edits['must-fail']]):
-                unshown += line is not None
-                print(line + '\n' if line else '', end='', flush=True)
-    failed = wanted - refused + unshown + len(amiss)
-    open(os.path.join(ALL, 'tally'), 'w', encoding='utf-8').write('%d %d\n' % (refused - unshown, failed))
+    wanted, refused, made, number = 0, 0, 0, 0
+    with concurrent.futures.ThreadPoolExecutor(JOBS) as pool:
+        waiting = {pool.submit(seed, crate): crate for crate in crates}
+        while waiting:
+            done, _ = concurrent.futures.wait(waiting, return_when=concurrent.futures.FIRST_COMPLETED)
+            for future in done:
+                crate = waiting.pop(future)
+                if crate is None:
+                    for line in future.result():
+                        refused += 'refused, as it must be' in line
+                        print(line, flush=True)
+                    continue
+                edits = sum(map(len, crate.edits.values()))
+                wanted += edits
+                if not future.result():
+                    print('wrong %s: NOT TRIED: the crate is not proved as it stands (%s)' % (crate.name, os.path.relpath(os.path.join(ALL, crate.name, 'seed.log'), ROOT)), flush=True)
+                    continue
+                for run in runs_of(crate):
+                    waiting[pool.submit(tried, run, number)] = None
+                    number += 1
+                    made += 1
+    failed = wanted - refused + len(amiss)
+    with open(os.path.join(ALL, 'tally'), 'w', encoding='utf-8') as out:
+        out.write('%d %d\n' % (refused, failed))
     spent = os.times()
-    print('%d of %d wrong answers refused, in %d runs of %d processor seconds; %d of must-fail show nothing; %d contracts lack some'
-          % (refused, wanted, len(runs), spent.children_user + spent.children_system, unshown, len(amiss)))
+    print('%d of %d wrong answers refused, in %d runs of %d processor seconds; %d contracts lack some'
+          % (refused, wanted, made, spent.children_user + spent.children_system, len(amiss)))
     return 1 if failed or not wanted else 0
 
 
 if __name__ == '__main__':
-    JOBS = int(os.environ.get('WRONG_JOBS') or os.cpu_count())
+    JOBS = int(os.environ.get('WRONG_JOBS') or len(os.sched_getaffinity(0)))
+    KIT = kit()
     sys.exit(main(sys.argv[1:]))
