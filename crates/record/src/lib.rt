@@ -39,6 +39,7 @@ fn number(a: u8, b: u8, c: u8, d: u8) -> u32
 }
 
 // The field of four bytes: its number, or 100,000,000 where a digit is above 9.
+#[tactic(auto, unfolding(crate::specs::Digits::quad_of))]
 fn quad(a: u8, b: u8, c: u8, d: u8) -> u32
     ensures { result ≡ quad_of a b c d }
 {
@@ -87,6 +88,7 @@ fn prices_of(s: &[u8]) -> [TenThousandths; 6]
 }
 
 // The fields of a record as it stands.
+#[tactic(auto, unfolding(crate::specs::Fields::fields_of))]
 fn fields_of(s: &[u8]) -> Plan
     requires { length s.now ≡ record_length }
     ensures { result ≡ fields_of s.now }
@@ -120,6 +122,7 @@ fn answered(p: Plan, a: Answer) -> Reading
 }
 
 // Reads a plan from a lent slice of any length: the plan, or 1 to 7.
+#[tactic(auto, unfolding(crate::specs::Record::read_of))]
 pub fn read(s: &[u8]) -> Reading
     ensures { result ≡ read_of s.now }
 {
@@ -142,6 +145,7 @@ fn put_quad(x: u64, at: usize, out: &mut [u8])
 }
 
 // Writes two numbers, one behind the other, into the eight bytes that begin at byte `at`.
+#[tactic(auto, unfolding(crate::specs::Fields::two_at))]
 fn put_two(x: u64, y: u64, at: usize, out: &mut [u8])
     requires { at + 8 ≤ length out.old }
     ensures { out.new ≡ two_at out.old at x y }
@@ -209,6 +213,7 @@ fn which(one: bool, two: bool) -> Choice
 }
 
 // Which of two lent records is in force on a date.
+#[tactic(auto, unfolding(crate::specs::Choice::choice_of))]
 pub fn choose<'a>(first: &'a [u8], second: &'a [u8], date: u32) -> Choice
     ensures { result ≡ choice_of first.now second.now date }
 {
