@@ -1,7 +1,7 @@
 #!/usr/bin/env python3
 """Measures the C library beside plain Rust and writes the table of docs/BENCHMARKS.md.
 
-  bench/core.py        in the repository's root, after `rt check host`; needs gcc, rustc, valgrind and size
+  bench/core.py        in the repository's root, after `rt lib` in crates/host; needs gcc, rustc, valgrind and size
 
 Instructions a call are counted by callgrind: those of 2,000 calls less those of 1,000. Times are those of bench/core.rs.
 Stack is what bench/stack.c sees. Code is the text of an executable with every function of the header, less that of one
@@ -52,16 +52,16 @@ def code_size():
             out.write(''.join('void %s(void);\n' % n for n in used))
             out.write('void (*const table[])(void) = {%s};\n' % ', '.join(used + ['0']))
             out.write('int main(int n, char **words) { (void)words; if (n > 100) table[n](); return 0; }\n')
-        run('gcc', '-O2', '-Wl,--gc-sections', source, 'target/staticlib/libhost.a', '-o', source[:-2])
+        run('gcc', '-O2', '-Wl,--gc-sections', source, 'crates/host/out/libhost.a', '-o', source[:-2])
         sizes.append(text_size(source[:-2]))
     return sizes[0] - sizes[1]
 
 
 def main():
     os.makedirs(ROOM, exist_ok=True)
-    run('rt', 'staticlib', 'host')
-    run('rustc', '--edition', '2021', '-O', '-o', ROOM + '/core', 'bench/core.rs', '-L', 'target/staticlib', '-l', 'static=host')
-    run('gcc', '-std=c11', '-O2', '-Wall', '-Wextra', '-Iinclude', 'bench/stack.c', 'target/staticlib/libhost.a', '-pthread',
+    run('sh', '-c', 'cd crates/host && rt lib')
+    run('rustc', '--edition', '2021', '-O', '-o', ROOM + '/core', 'bench/core.rs', '-L', 'crates/host/out', '-l', 'static=host')
+    run('gcc', '-std=c11', '-O2', '-Wall', '-Wextra', '-Iinclude', 'bench/stack.c', 'crates/host/out/libhost.a', '-pthread',
         '-o', ROOM + '/stack')
     if not os.path.exists(RECORDS):
         made = subprocess.run(['python3', 'tests/records.py', 'many', '10000'], capture_output=True, check=True).stdout

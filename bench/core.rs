@@ -1,4 +1,4 @@
-// Times the C library (target/staticlib/libhost.a) beside the same work in plain Rust, both on a meter where it lies:
+// Times the C library (crates/host/out/libhost.a) beside the same work in plain Rust, both on a meter where it lies:
 //
 //   core RECORDS          a line for each row: its name, nanoseconds of the library, of plain Rust
 //   core RECORDS NAME N   NAME once with N calls, for a count of instructions

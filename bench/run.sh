@@ -1,6 +1,6 @@
 #!/bin/sh
 # Times the proved plan printer beside the one in plain Rust (bench/printer.rs) on the same records,
-# and compares what they print. Run it in the repository's root after `rt check plan_printer`:
+# and compares what they print. Run it in the repository's root after `rt run </dev/null` in crates/plan_printer:
 #
 #   bench/run.sh [RECORDS [TURNS]]
 #
@@ -29,7 +29,7 @@ proved=999999999999
 plain=999999999999
 i=0
 while [ "$i" -lt "$turns" ]; do
-    proved=$(least "$proved" "$(once target/bin/plan_printer "$room/out-proved")")
+    proved=$(least "$proved" "$(once crates/plan_printer/out/plan_printer "$room/out-proved")")
     plain=$(least "$plain" "$(once "$room/plain" "$room/out-plain")")
     i=$((i + 1))
 done

@@ -1,7 +1,7 @@
 /*
  * A host that keeps one meter: Plan A of document 01, 100 yuan, and the gas of 31 January 2020 up to its midnight.
  *
- *     gcc -std=c11 -Wall -Wextra -pedantic -Iinclude examples/one_day.c target/staticlib/libhost.a -o one_day
+ *     gcc -std=c11 -Wall -Wextra -pedantic -Iinclude examples/one_day.c crates/host/out/libhost.a -o one_day
  */
 #include "harpdapple.h"
 

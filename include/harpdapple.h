@@ -15,7 +15,7 @@
  * ten-thousandths for a m3 times a volume in hundredths is an amount in millionths. Dates are the decimal number
  * YYYYMMDD, 20000101 to 20991231. A stamp is a date and a second of it; second 0 belongs to the day that it begins.
  *
- * Link with -lhost (libhost.a, built by `rt staticlib host`); the archive is for x86-64 Linux.
+ * Link with -lhost (libhost.a, built by `rt lib` in crates/host); the archive is for x86-64 Linux.
  */
 #ifndef HARPDAPPLE_H
 #define HARPDAPPLE_H

@@ -4,7 +4,7 @@
 # Run from the repository's root, after `rt ci` or `rt check`. A line for each test; the last is `library: N passed, M failed`.
 set -u
 
-library=target/staticlib/libhost.a
+library=crates/host/out/libhost.a
 out=target/tests
 passed=0
 failed=0
@@ -23,7 +23,10 @@ try() {
     fi
 }
 
-builds() { rt staticlib host && [ -f "$library" ]; }
+builds() { (cd crates/host && rt lib) && [ -f "$library" ]; }
+
+# builds a program and runs it on an empty input
+made() { (cd "crates/$1" && rt run </dev/null) && [ -x "crates/$1/out/$1" ]; }
 
 # $1 is what is expected; the rest is run, with standard input as it is
 prints() {
@@ -32,7 +35,7 @@ prints() {
     "$@" >"$out/printed" && diff "$expected" "$out/printed"
 }
 
-plays() { rt check replay && prints examples/midnight.expected target/bin/replay <examples/midnight.journal; }
+plays() { made replay && prints examples/midnight.expected crates/replay/out/replay <examples/midnight.journal; }
 
 in_c() { gcc -std=c11 -O2 -Wall -Wextra -pedantic -Werror -Iinclude "$@"; }
 
@@ -48,13 +51,13 @@ model_builds() { rustc --edition 2021 -O tests/model/main.rs -o "$out/model" -C 
 
 same_abi() { in_c tests/abi.c -o "$out/abi" && "$out/abi" >"$out/abi.header" && prints "$out/abi.header" "$out/model" abi; }
 
-printer_agrees() { rt check plan_printer && python3 tests/records.py check 20000; }
+printer_agrees() { made plan_printer && python3 tests/records.py check 20000; }
 
 if ! [ -f include/harpdapple.h ] || ! mkdir -p "$out"; then
     echo "library: FAILED: run from the repository's root"
     exit 1
 fi
-try "rt staticlib host writes $library" builds
+try "rt lib in crates/host writes $library" builds
 try "replay prints what is expected for the midnight of the ticket" plays
 if [ "${HARPDAPPLE_SKIP_LIBRARY_TESTS:-0}" = 1 ]; then
     echo "library: the tests with gcc, g++, rustc and python3 are left out, as HARPDAPPLE_SKIP_LIBRARY_TESTS says"

@@ -3,7 +3,7 @@
 
   tests/records.py write            writes crates/plan_printer/stdin and stdout
   tests/records.py many N [SEED]    writes N random records to standard output
-  tests/records.py check N [SEED]   runs target/bin/plan_printer on N random records and a short one,
+  tests/records.py check N [SEED]   runs crates/plan_printer/out/plan_printer on N random records and a short one,
                                     and on parts of them, and compares what it prints
 
 Run it in the repository's root. The reader below is written from document 01 alone ("Plan record",
@@ -176,7 +176,7 @@ def many(n, seed):
 
 
 def printed(s):
-    return subprocess.run(['target/bin/plan_printer'], input=s, capture_output=True, check=True).stdout.decode()
+    return subprocess.run(['crates/plan_printer/out/plan_printer'], input=s, capture_output=True, check=True).stdout.decode()
 
 
 def check(n, seed):
