@@ -5,7 +5,7 @@ ghost use Rattle.std.specs.Prelude.{◌≡◌, true, ◌+◌, ◌≤◌, ◌<◌
 ghost use Rattle.calendar.specs.Date.{is_date};
 ghost use Rattle.calendar_check.specs.Tally.{Counted};
 
-use libc::STDOUT_FILENO;
+use std::io;
 
 // The first dates of a day's month, quarter and year, as the count passed them.
 #[derive(Clone, Copy)]
@@ -209,15 +209,13 @@ fn tallied() -> Tally {
     t
 }
 
-fn line(name: &[u8], n: u32) {
-    io::write_all(STDOUT_FILENO, name);
-    io::print_decimal(STDOUT_FILENO, n as u64);
-    io::write_all(STDOUT_FILENO, b"\n");
+fn line(rt: &impl Print, name: &str, n: u32) -> io::Result<()> {
+    println!(rt; "{name} {n}")
 }
 
-fn main() {
+fn main(rt: HostRuntime) -> io::Result<()> {
     let t = tallied();
-    line(b"numbers ", t.numbers);
-    line(b"dates ", t.dates);
-    line(b"differences ", t.differences);
+    line(&rt, "numbers", t.numbers)?;
+    line(&rt, "dates", t.dates)?;
+    line(&rt, "differences", t.differences)
 }

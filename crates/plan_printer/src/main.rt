@@ -2,36 +2,64 @@
 // each. A short last record is refused 1; an empty input prints nothing.
 #![tactic(auto)]
 
-ghost use Rattle.std.specs.Prelude.{◌*◌, ◌≤◌, length};
+ghost use Rattle.std.specs.Prelude.{◌*◌, ◌≤◌, length, IfOk};
 ghost use Rattle.printer.specs.Records.{records_in};
 
-use libc::{STDIN_FILENO, STDOUT_FILENO};
+use std::io;
+use std::io::{Read, Write};
 
-// Reads as many records as fit, prints their lines, and answers whether more may follow: not after
-// the end of the input, nor where writing fails.
-fn print_some(records: &mut [u8], text: &mut [u8]) -> bool
-    requires { 378 * records_in records.old ≤ length text.old }
+// Reads until the records are full or the input ends, and answers how many bytes there are.
+fn read_full(input: &mut impl Read, records: &mut [u8]) -> io::Result<usize>
+    ensures { IfOk result (λ n. n ≤ length records.new) }
 {
-    let got = io::read_full(STDIN_FILENO, records);
-    let n = printer::lines(&records[..got], text);
-    let written = io::write_all(STDOUT_FILENO, &text[..n]);
-    written && got == records.len()
+    let mut done = 0usize;
+    while done < records.len() {
+        let got = input.read(&mut records[done..])?;
+        if got == 0 {
+            break;
+        }
+        done += got;
+    }
+    Ok(done)
 }
 
-// A proved loop has to end, and nothing says that the input does. So it counts its turns down, from
-// a number that no run uses up.
-fn print_all(records: &mut [u8], text: &mut [u8])
+// Reads as many records as fit, prints their lines, and answers whether more may follow: not after
+// the end of the input.
+fn print_some(
+    input: &mut impl Read,
+    output: &mut impl Write,
+    records: &mut [u8],
+    text: &mut [u8],
+) -> io::Result<bool>
     requires { 378 * records_in records.old ≤ length text.old }
 {
-    let mut turns = u64::MAX;
-    while turns > 0 && print_some(records, text) {
-        turns -= 1;
+    let got = read_full(input, records)?;
+    let n = printer::lines(&records[..got], text);
+    output.write_all(&text[..n])?;
+    Ok(got == records.len())
+}
+
+// A proved loop has to end, and nothing says that the input does. So it counts its turns, up to a
+// number that no run uses up.
+fn print_all(
+    input: &mut impl Read,
+    output: &mut impl Write,
+    records: &mut [u8],
+    text: &mut [u8],
+) -> io::Result<()>
+    requires { 378 * records_in records.old ≤ length text.old }
+{
+    for _ in 0..u64::MAX {
+        if !print_some(input, output, records, text)? {
+            break;
+        }
     }
+    Ok(())
 }
 
 // Room for 992 records, and for as many lines of at most 378 bytes.
-fn main() {
+fn main(rt: HostRuntime) -> io::Result<()> {
     let mut records = [0u8; 65_472];
     let mut text = [0u8; 374_976];
-    print_all(&mut records, &mut text);
+    print_all(&mut rt.stdin(), &mut rt.stdout(), &mut records, &mut text)
 }
