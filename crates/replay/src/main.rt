@@ -2,10 +2,11 @@
 // the ledger's view of the journal beside the meter's at the end.
 #![tactic(auto)]
 
-ghost use Rattle.std.specs.Prelude.{◌+◌, ◌*◌, ◌≤◌, length};
+ghost use Rattle.std.specs.Prelude.{◌+◌, ◌*◌, ◌≤◌, length, IfOk};
 
 use desk::Desk;
-use libc::{STDIN_FILENO, STDOUT_FILENO};
+use std::io;
+use std::io::{Read, Write};
 
 // The desk, the lines so far, and whether the program is inside a line that was too long.
 #[derive(Clone, Copy)]
@@ -29,22 +30,22 @@ fn next(n: u64) -> u64 {
 }
 
 // Writes the first bytes of the output.
-fn flush(at: usize, out: &[u8])
+fn flush(sink: &mut impl Write, at: usize, out: &[u8]) -> io::Result<()>
     requires { at ≤ length out.now }
 {
-    io::write_all(STDOUT_FILENO, &out[..at]);
+    sink.write_all(&out[..at])
 }
 
 // Sees to room for one more answer, and says where it begins.
-fn roomy(at: usize, out: &[u8]) -> usize
+fn roomy(sink: &mut impl Write, at: usize, out: &[u8]) -> io::Result<usize>
     requires { (at ≤ length out.now) × (320 ≤ length out.now) }
-    ensures { result + 320 ≤ length out.now }
+    ensures { IfOk result (λ free. free + 320 ≤ length out.now) }
 {
     if out.len() - at >= 320 {
-        return at;
+        return Ok(at);
     }
-    flush(at, out);
-    0
+    flush(sink, at, out)?;
+    Ok(0)
 }
 
 // Plays one line; the end of a line that was too long is passed over.
@@ -81,38 +82,42 @@ fn play_line(s: Spot, at: usize, line: &[u8], room: &mut [u8], out: &mut [u8]) -
 }
 
 // Plays the whole lines of the input, and says how far they go.
-fn play_lines(s: Spot, input: &[u8], room: &mut [u8], out: &mut [u8]) -> Turn
+fn play_lines(
+    sink: &mut impl Write,
+    s: Spot,
+    input: &[u8],
+    room: &mut [u8],
+    out: &mut [u8],
+) -> io::Result<Turn>
     requires input_len_bound { (length input.now ≤ 2 * length room.old) × (length input.now ≤ 65536) }
     requires in_bounds { (320 ≤ length out.old) × (length out.old ≤ 65536) }
-    ensures { (result.at ≤ length out.old) × (result.input ≤ length input.now) }
+    ensures { IfOk result (λ t. (t.at ≤ length out.old) × (t.input ≤ length input.now)) }
 {
     let mut spot = s;
     let mut at = 0usize;
     let mut from = 0usize;
     let mut end = lines::line_end(input, 0);
     while end < input.len() {
-        let free = roomy(at, out);
+        let free = roomy(sink, at, out)?;
         let t = play_line(spot, free, &input[from..end], room, out);
         spot = t.spot;
         at = t.at;
         from = end + 1;
         end = lines::line_end(input, from);
     }
-    Turn {
+    Ok(Turn {
         spot,
         at,
         input: from,
-    }
+    })
 }
 
 // One read behind the bytes that are held: how many more there are, 0 at the end of the input.
-fn read_behind(input: &mut [u8], held: usize) -> usize
+fn read_behind(source: &mut impl Read, input: &mut [u8], held: usize) -> io::Result<usize>
     requires { held ≤ length input.old }
-    ensures { held + result ≤ length input.old }
+    ensures { IfOk result (λ got. held + got ≤ length input.old) }
 {
-    let rest = &mut input[held..];
-    let got = libc::read(STDIN_FILENO, rest);
-    io::count(got, rest)
+    source.read(&mut input[held..])
 }
 
 // What is left of the input is held for the next read, but for a line that is too long: it is
@@ -148,20 +153,27 @@ fn keep(s: Spot, left: usize, most: usize, at: usize, out: &mut [u8]) -> Turn
 }
 
 // The lines that a read completes, answered before the next; `have` bytes are there.
-fn play_some(s: Spot, have: usize, input: &mut [u8], room: &mut [u8], out: &mut [u8]) -> Turn
+fn play_some(
+    sink: &mut impl Write,
+    s: Spot,
+    have: usize,
+    input: &mut [u8],
+    room: &mut [u8],
+    out: &mut [u8],
+) -> io::Result<Turn>
     requires input_len_bound { (length input.old ≤ 2 * length room.old) × (length input.old ≤ 65536) }
     requires have_in_bounds { have ≤ length input.old }
     requires in_bounds { (320 ≤ length out.old) × (length out.old ≤ 65536) }
-    ensures { result.input ≤ length input.old }
+    ensures { IfOk result (λ t. t.input ≤ length input.old) }
 {
-    let t = play_lines(s, &input[..have], room, out);
+    let t = play_lines(sink, s, &input[..have], room, out)?;
     let from = t.input;
     lines::shift(input, from, have);
-    let free = roomy(t.at, out);
+    let free = roomy(sink, t.at, out)?;
     let spot = t.spot;
     let k = keep(spot, have - from, input.len(), free, out);
-    flush(k.at, out);
-    k
+    flush(sink, k.at, out)?;
+    Ok(k)
 }
 
 // The closing line: the ledger's view of the journal beside the meter's.
@@ -176,31 +188,49 @@ fn close(desk: Desk, out: &mut [u8]) -> usize
 }
 
 // A last line without its end.
-fn play_rest(s: Spot, rest: &[u8], room: &mut [u8], out: &mut [u8]) -> Spot
+fn play_rest(
+    sink: &mut impl Write,
+    s: Spot,
+    rest: &[u8],
+    room: &mut [u8],
+    out: &mut [u8],
+) -> io::Result<Spot>
     requires rest_len_bound { length rest.now ≤ 2 * length room.old }
     requires in_bounds { (320 ≤ length out.old) × (length out.old ≤ 65536) }
 {
     if rest.len() == 0 {
-        return s;
+        return Ok(s);
     }
     let t = play_line(s, 0, rest, room, out);
-    flush(t.at, out);
-    t.spot
+    flush(sink, t.at, out)?;
+    Ok(t.spot)
 }
 
 // The end of the input: its last line, and the closing line.
-fn finish(s: Spot, rest: &[u8], room: &mut [u8], out: &mut [u8])
+fn finish(
+    sink: &mut impl Write,
+    s: Spot,
+    rest: &[u8],
+    room: &mut [u8],
+    out: &mut [u8],
+) -> io::Result<()>
     requires rest_len_bound { length rest.now ≤ 2 * length room.old }
     requires in_bounds { (320 ≤ length out.old) × (length out.old ≤ 65536) }
 {
-    let e = play_rest(s, rest, room, out);
+    let e = play_rest(sink, s, rest, room, out)?;
     let k = close(e.desk, out);
-    flush(k, out);
+    flush(sink, k, out)
 }
 
-// A proved loop has to end, and nothing says that the input does. So it counts its turns down, from
-// a number that no run uses up.
-fn play_all(input: &mut [u8], room: &mut [u8], out: &mut [u8])
+// A proved loop has to end, and nothing says that the input does. So it counts its turns, up to a
+// number that no run uses up.
+fn play_all(
+    source: &mut impl Read,
+    sink: &mut impl Write,
+    input: &mut [u8],
+    room: &mut [u8],
+    out: &mut [u8],
+) -> io::Result<()>
     requires input_len_bound { (length input.old ≤ 2 * length room.old) × (length input.old ≤ 65536) }
     requires in_bounds { (320 ≤ length out.old) × (length out.old ≤ 65536) }
 {
@@ -210,21 +240,21 @@ fn play_all(input: &mut [u8], room: &mut [u8], out: &mut [u8])
         skipping: false,
     };
     let mut held = 0usize;
-    let mut got = read_behind(input, 0);
-    let mut turns = u64::MAX;
-    while turns > 0 && got > 0 {
-        let t = play_some(spot, held + got, input, room, out);
+    for _ in 0..u64::MAX {
+        let got = read_behind(source, input, held)?;
+        if got == 0 {
+            break;
+        }
+        let t = play_some(sink, spot, held + got, input, room, out)?;
         spot = t.spot;
         held = t.input;
-        got = read_behind(input, held);
-        turns -= 1;
     }
-    finish(spot, &input[..held], room, out);
+    finish(sink, spot, &input[..held], room, out)
 }
 
-fn main() {
+fn main(rt: HostRuntime) -> io::Result<()> {
     let mut input = [0u8; 65_536];
     let mut room = [0u8; 32_768];
     let mut out = [0u8; 65_536];
-    play_all(&mut input, &mut room, &mut out);
+    play_all(&mut rt.stdin(), &mut rt.stdout(), &mut input, &mut room, &mut out)
 }
