@@ -1,32 +1,42 @@
 // A line for each check, and how many there were.
-use libc::STDOUT_FILENO;
+use std::io;
+use std::io::Stdout;
 
-// The checks so far, and those that failed.
-pub type Count = [u32; 2];
+// Where the lines go, the checks so far, and those that failed.
+#[derive(Clone, Copy)]
+pub struct Count {
+    out: Stdout,
+    checks: u32,
+    wrong: u32,
+}
 
 fn next(n: u32) -> u32 {
     if n < 1000 { n + 1 } else { n }
 }
 
-fn line(before: &[u8], name: &[u8]) {
-    io::write_all(STDOUT_FILENO, before);
-    io::write_all(STDOUT_FILENO, name);
-    io::write_all(STDOUT_FILENO, b"\n");
-}
-
-pub fn say(c: Count, ok: bool, name: &[u8]) -> Count {
-    let checks = next(c[0]);
-    if ok {
-        line(b"ok ", name);
-        return [checks, c[1]];
+impl Count {
+    pub fn new(out: Stdout) -> Count {
+        Count {
+            out,
+            checks: 0,
+            wrong: 0,
+        }
     }
-    line(b"WRONG ", name);
-    [checks, next(c[1])]
-}
 
-pub fn sum_up(c: Count) {
-    io::print_decimal(STDOUT_FILENO, c[0] as u64);
-    io::write_all(STDOUT_FILENO, b" checks, ");
-    io::print_decimal(STDOUT_FILENO, c[1] as u64);
-    line(b" wrong", b"");
+    pub fn say(&mut self, ok: bool, name: &str) -> io::Result<()> {
+        let out = self.out;
+        self.checks = next(self.checks);
+        if ok {
+            return println!(out; "ok {name}");
+        }
+        self.wrong = next(self.wrong);
+        println!(out; "WRONG {name}")
+    }
+
+    pub fn sum_up(&self) -> io::Result<()> {
+        let out = self.out;
+        let checks = self.checks;
+        let wrong = self.wrong;
+        println!(out; "{checks} checks, {wrong} wrong")
+    }
 }

@@ -1,8 +1,9 @@
 // The record in force of two: which is handed back, and each refusal with nothing handed back.
-use crate::count::{Count, say};
+use crate::count::Count;
 use crate::run::PASS;
 use crate::{same, setup};
 use record::Choice;
+use std::io;
 
 // The number of the refusal to choose between two records on a date.
 fn number<'a>(first: &'a [u8; 66], second: &'a [u8; 66], date: u32) -> u32 {
@@ -23,39 +24,39 @@ fn refuses<'a>(first: &'a [u8; 66], second: &'a [u8; 66], date: u32, n: u32) -> 
     hands(first, second, date, b"") & (number(first, second, date) == n)
 }
 
-fn which(c: Count) -> Count {
+fn which(c: &mut Count) -> io::Result<()> {
     let a = setup::plan_a();
     let t = setup::table_c10();
     let b = a;
     let ok = hands(&a, &t, 20_200_101, &b);
-    let c = say(c, ok, b"the first record in force is handed back");
+    c.say(ok, "the first record in force is handed back")?;
     let ok = hands(&t, &a, 20_200_101, &b);
-    say(c, ok, b"the second record in force is handed back")
+    c.say(ok, "the second record in force is handed back")
 }
 
-fn refused(c: Count) -> Count {
+fn refused(c: &mut Count) -> io::Result<()> {
     let a = setup::plan_a();
     let t = setup::table_c10();
     let ok = refuses(&a, &t, 20_210_101, 24);
-    let c = say(c, ok, b"24: neither record in force");
+    c.say(ok, "24: neither record in force")?;
     let ok = refuses(&a, &a, 20_200_101, 12);
-    let c = say(c, ok, b"12: both records in force");
+    c.say(ok, "12: both records in force")?;
     let ok = refuses(&a, &t, 20_210_229, 8);
-    say(c, ok, b"8: the date of a record in force")
+    c.say(ok, "8: the date of a record in force")
 }
 
-fn damaged(c: Count) -> Count {
+fn damaged(c: &mut Count) -> io::Result<()> {
     let a = setup::plan_a();
     let s = setup::altered(8, 7, 1);
     let w = setup::altered(8, 2, 6);
     let ok = refuses(&s, &w, 20_200_101, 2);
-    let c = say(c, ok, b"2: the first of two records has seven steps");
+    c.say(ok, "2: the first of two records has seven steps")?;
     let ok = refuses(&a, &w, 20_200_101, 3);
-    say(c, ok, b"3: the second of two records has cycle word 06")
+    c.say(ok, "3: the second of two records has cycle word 06")
 }
 
-pub fn all(c: Count) -> Count {
-    let c = which(c);
-    let c = refused(c);
+pub fn all(c: &mut Count) -> io::Result<()> {
+    which(c)?;
+    refused(c)?;
     damaged(c)
 }

@@ -12,9 +12,13 @@ mod same; // same.rt: meters compared
 mod setup; // setup.rt: records and meters
 mod sums; // sums.rt: the worked sums
 
-fn main() {
-    let c = sums::all([0, 0]);
-    let c = refusals::all(c);
-    let c = force::all(c);
-    count::sum_up(c);
+use count::Count;
+use std::io;
+
+fn main(rt: HostRuntime) -> io::Result<()> {
+    let mut c = Count::new(rt.stdout());
+    sums::all(&mut c)?;
+    refusals::all(&mut c)?;
+    force::all(&mut c)?;
+    c.sum_up()
 }

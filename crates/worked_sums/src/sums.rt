@@ -1,28 +1,29 @@
 // Document 01, "Worked sums": those that a program checks, the overlap of Tables C.10 and C.11, and
 // gas at midnight of a month's end.
 use crate::calls::{load, pulses, recharge, tick};
-use crate::count::{Count, say};
+use crate::count::Count;
 use crate::run::PASS;
 use crate::setup;
 use crate::setup::{FEBRUARY, FRESH, JANUARY, PLANNED, READY, RECHARGED, TABLED};
 use query::Displayed;
 use records::Fetched;
 use slots::Stepped;
+use std::io;
 
-fn pulse_limit(c: Count) -> Count {
+fn pulse_limit(c: &mut Count) -> io::Result<()> {
     let ok = pulses(READY, 20_200_115, 65_535, PASS);
-    let c = say(c, ok, b"65,535 pulses pass");
+    c.say(ok, "65,535 pulses pass")?;
     let ok = pulses(READY, 20_200_115, 65_536, 13);
-    say(c, ok, b"65,536 pulses are refused 13")
+    c.say(ok, "65,536 pulses are refused 13")
 }
 
-fn serials(c: Count) -> Count {
+fn serials(c: &mut Count) -> io::Result<()> {
     let ok = recharge(PLANNED, 1_000_000, 2, 18);
-    let c = say(c, ok, b"serial 2 first is refused 18");
+    c.say(ok, "serial 2 first is refused 18")?;
     let ok = recharge(PLANNED, 1_000_000, 1, PASS);
-    let c = say(c, ok, b"serial 1 first passes");
+    c.say(ok, "serial 1 first passes")?;
     let ok = recharge(RECHARGED, 1_000_000, 1, 16);
-    say(c, ok, b"serial 1 twice is refused 16")
+    c.say(ok, "serial 1 twice is refused 16")
 }
 
 fn load_c10() -> bool {
@@ -37,13 +38,13 @@ fn load_c11(date: u32, n: u32) -> bool {
 }
 
 // As printed the two tables overlap until the window of the first ends on 20160101.
-fn overlap(c: Count) -> Count {
+fn overlap(c: &mut Count) -> io::Result<()> {
     let ok = load_c10();
-    let c = say(c, ok, b"Table C.10 loads into slot 1");
+    c.say(ok, "Table C.10 loads into slot 1")?;
     let ok = load_c11(20_151_231, 12);
-    let c = say(c, ok, b"Table C.11 beside it on 20151231 is refused 12");
+    c.say(ok, "Table C.11 beside it on 20151231 is refused 12")?;
     let ok = load_c11(20_160_101, PASS);
-    say(c, ok, b"Table C.11 beside it on 20160101 loads")
+    c.say(ok, "Table C.11 beside it on 20160101 loads")
 }
 
 // Whether the meter's step has this number and price.
@@ -58,15 +59,15 @@ fn step(k: u32, number: u8, price: u64) -> bool {
 }
 
 // Gas in the second at midnight is February's alone, and February begins in step 1.
-fn midnight(c: Count) -> Count {
+fn midnight(c: &mut Count) -> io::Result<()> {
     let ok = step(JANUARY, 2, 31_500);
-    let c = say(c, ok, b"after 2,500 pulses in January the step is 2");
+    c.say(ok, "after 2,500 pulses in January the step is 2")?;
     let ok = pulses(JANUARY, 20_200_201, 1, PASS);
-    let c = say(c, ok, b"a pulse at 20200201 second 0 passes");
+    c.say(ok, "a pulse at 20200201 second 0 passes")?;
     let ok = step(FEBRUARY, 1, 26_000);
-    let c = say(c, ok, b"after it the step is 1");
+    c.say(ok, "after it the step is 1")?;
     let ok = tick(FEBRUARY, 20_200_301, 0, PASS);
-    say(c, ok, b"a tick on 20200301 passes")
+    c.say(ok, "a tick on 20200301 passes")
 }
 
 // Whether month record k on 20200301 has this date, volume and charge.
@@ -80,11 +81,11 @@ fn holds(k: usize, date: u32, volume: u32, charge: u64) -> bool {
     }
 }
 
-fn months(c: Count) -> Count {
+fn months(c: &mut Count) -> io::Result<()> {
     let ok = holds(0, 20_200_201, 1, 26_000);
-    let c = say(c, ok, b"February holds 1 pulse and 26,000");
+    c.say(ok, "February holds 1 pulse and 26,000")?;
     let ok = holds(1, 20_200_101, 2_500, 65_000_000);
-    say(c, ok, b"January holds 2,500 pulses and 65,000,000")
+    c.say(ok, "January holds 2,500 pulses and 65,000,000")
 }
 
 // Whether the display shows this many ten-thousandths of a yuan for a balance.
@@ -98,18 +99,18 @@ fn shows(balance: i64, n: i64) -> bool {
     }
 }
 
-fn displays(c: Count) -> Count {
-    let c = say(c, shows(99, 0), b"99 shows 0");
-    let c = say(c, shows(-1, -1), b"-1 shows -1");
-    let c = say(c, shows(-100, -1), b"-100 shows -1");
-    say(c, shows(-101, -2), b"-101 shows -2")
+fn displays(c: &mut Count) -> io::Result<()> {
+    c.say(shows(99, 0), "99 shows 0")?;
+    c.say(shows(-1, -1), "-1 shows -1")?;
+    c.say(shows(-100, -1), "-100 shows -1")?;
+    c.say(shows(-101, -2), "-101 shows -2")
 }
 
-pub fn all(c: Count) -> Count {
-    let c = pulse_limit(c);
-    let c = serials(c);
-    let c = overlap(c);
-    let c = midnight(c);
-    let c = months(c);
+pub fn all(c: &mut Count) -> io::Result<()> {
+    pulse_limit(c)?;
+    serials(c)?;
+    overlap(c)?;
+    midnight(c)?;
+    months(c)?;
     displays(c)
 }
