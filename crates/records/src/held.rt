@@ -28,6 +28,7 @@ pub const MONTH_LIMIT: usize = 120;
 const LEAST: i64 = -9_223_372_036_854_775_808;
 
 // No record held.
+#[tactic(auto, unfolding(crate::specs::Words::no_words))]
 pub fn none() -> Words
     ensures { result ≡ no_words }
 {
@@ -60,6 +61,7 @@ fn date_word(r: Record) -> u64
 }
 
 // The record of three words.
+#[tactic(auto, unfolding(crate::specs::Words::record_from))]
 fn record_from(a: u64, b: u64, c: u64) -> Record
     ensures { result ≡ record_from a b c }
 {
