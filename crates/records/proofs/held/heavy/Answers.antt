@@ -1,5 +1,5 @@
 -- The held days are passed one by one while they are lighter; the first that is not is named.
-use Rattle.std.proofs.Common.{◌≡◌, refl, sym, ◌∙◌, arith, get_or, below_more}
+use Rattle.std.proofs.Common.{refl, sym, ◌∙◌, arith, get_or, below_more}
 use native.Mathlib.Nat.{not-le_of_lt}
 use borrow.Author.Tests.{leb-true, leb-false}
 use Rattle.records.specs.Words.{held_from}
