@@ -93,6 +93,7 @@ fn without_extra(p: Plan, w: u8, q: [u64; 12]) -> [u64; 18]
 }
 
 // The numbers of a plan's line, and others behind them.
+#[tactic(auto, unfolding(crate::specs::Columns::columns_of))]
 fn columns_of(p: Plan) -> [u64; 18]
     ensures { result ≡ columns_of p }
 {
@@ -105,6 +106,7 @@ fn columns_of(p: Plan) -> [u64; 18]
 }
 
 // How many of them the line has.
+#[tactic(auto, unfolding(crate::specs::Columns::count_of))]
 fn count_of(p: Plan) -> usize
     ensures { result ≡ count_of p }
 {
