@@ -23,6 +23,7 @@ impl Slots {
     }
 
     // Refusals 10, 1 to 7, 11 and 12 of a load on the date, in their order.
+    #[tactic(auto, unfolding(crate::specs::Load::load_refusal))]
     pub fn vet(self, d: u32, k: u32, r: Reading) -> Answer
         ensures { result ≡ load_refusal real self d k r }
     {
@@ -37,6 +38,7 @@ impl Slots {
     }
 
     // The plan put into slot k.
+    #[tactic(auto, unfolding(crate::specs::Load::loaded))]
     pub fn loaded(self, k: u32, p: Plan) -> Slots
         ensures { result ≡ loaded self k p }
     {
