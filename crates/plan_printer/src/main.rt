@@ -41,6 +41,7 @@ fn print_some(
 
 // A proved loop has to end, and nothing says that the input does. So it counts its turns, up to a
 // number that no run uses up.
+#[tactic(auto, unfolding(printer::specs::Records::records_in))]
 fn print_all(
     input: &mut impl Read,
     output: &mut impl Write,
@@ -58,6 +59,7 @@ fn print_all(
 }
 
 // Room for 992 records, and for as many lines of at most 378 bytes.
+#[tactic(auto, unfolding(printer::specs::Records::records_in))]
 fn main(rt: HostRuntime) -> io::Result<()> {
     let mut records = [0u8; 65_472];
     let mut text = [0u8; 374_976];
