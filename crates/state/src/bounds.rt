@@ -14,12 +14,14 @@ use records::held;
 use records::held::Words;
 
 impl Volumes {
+    #[tactic(auto, unfolding(crate::specs::Bounds::is_fresh_volumes))]
     fn is_fresh(self) -> bool
         ensures { result ≡ is_fresh_volumes self }
     {
         (self.total.0 == 0) & (self.unpriced.0 == 0)
     }
 
+    #[tactic(auto, unfolding(crate::specs::Bounds::volumes_good))]
     fn is_good(self) -> bool
         ensures { result ≡ volumes_good self }
     {
@@ -28,6 +30,7 @@ impl Volumes {
 }
 
 impl Registers {
+    #[tactic(auto, unfolding(crate::specs::State::state_with, crate::specs::Bounds::is_fresh))]
     fn is_fresh(self, words: &Words) -> bool
         ensures { result ≡ is_fresh (state_of self words.now) }
     {
@@ -40,6 +43,7 @@ impl Registers {
     }
 
     // `kept`: the held records keep the bounds; they are tested first, while little else is in the processor's registers.
+    #[tactic(auto, unfolding(crate::specs::State::state_with, crate::specs::Bounds::state_good, slots::specs::Bounds::idle_good))]
     fn state_good(self, words: &Words, kept: bool, some: bool) -> bool
         requires kept_value { kept ≡ held_good highest_balance self.volumes.total.0 (held_of words.now) }
         requires some_value { some ≡ some_force real self.slots self.clock.date }
@@ -53,6 +57,7 @@ impl Registers {
     }
 
     // Whether the meter is within its bounds, `some` being whether a plan is in force on the clock's date.
+    #[tactic(auto, unfolding(crate::specs::State::state_with, crate::specs::Bounds::bounded, crate::specs::Bounds::stamp_good, calendar::specs::Stamp::is_stamp))]
     pub(crate) fn bounded_on(self, words: &Words, some: bool) -> bool
         requires { some ≡ some_force real self.slots self.clock.date }
         ensures { result ≡ bounded real (state_of self words.now) }
