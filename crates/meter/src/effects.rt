@@ -13,6 +13,7 @@ use account::Codes;
 use plan::Plan;
 use state::Stage;
 
+#[tactic(auto, unfolding(crate::specs::Effects::effect_of, crate::specs::Effects::codes_of, account::specs::Codes::note_all, state::specs::State::registers_of, state::specs::State::state_with))]
 pub(crate) fn recharged(t: Stage, p: Recharge) -> Outcome
     requires small { Small t.registers.account.balance.0 }
     requires amount_bound { p.amount.0 ≤ 2 ^ 55 }
@@ -23,6 +24,7 @@ pub(crate) fn recharged(t: Stage, p: Recharge) -> Outcome
     Machine::accepted(next, t.codes.note(Codes::RECHARGED))
 }
 
+#[tactic(auto, unfolding(account::specs::Codes::note_all, state::specs::State::registers_of, state::specs::State::state_with))]
 pub(crate) fn loaded(t: Stage, slot: u32, plan: Plan) -> Outcome
     ensures { result ≡ accepted_of (registers_of (with_slots (alone t.registers) (loaded t.registers.slots slot plan))) (note_all t.codes (0x27 ∷ [])) }
 {
@@ -31,6 +33,7 @@ pub(crate) fn loaded(t: Stage, slot: u32, plan: Plan) -> Outcome
     Machine::accepted(next, t.codes.note(Codes::SET))
 }
 
+#[tactic(auto, unfolding(crate::specs::Effects::effect_of, crate::specs::Effects::codes_of, account::specs::Codes::note_all, state::specs::State::registers_of, state::specs::State::state_with))]
 pub(crate) fn alarmed(t: Stage, p: Alarms) -> Outcome
     ensures { result ≡ effect_by t (alarms p) }
 {
@@ -39,6 +42,7 @@ pub(crate) fn alarmed(t: Stage, p: Alarms) -> Outcome
     Machine::accepted(next, t.codes.note(Codes::SET))
 }
 
+#[tactic(auto, unfolding(crate::specs::Effects::effect_of, crate::specs::Effects::codes_of, state::specs::State::registers_of, state::specs::State::state_with))]
 pub(crate) fn commanded(t: Stage, p: Command) -> Outcome
     ensures { result ≡ effect_by t (command p) }
 {
@@ -49,6 +53,7 @@ pub(crate) fn commanded(t: Stage, p: Command) -> Outcome
     Machine::accepted(next, codes)
 }
 
+#[tactic(auto, unfolding(state::specs::State::registers_of, state::specs::State::state_with))]
 pub(crate) fn opened(t: Stage) -> Outcome
     ensures { result ≡ accepted_of (registers_of (with_valve (alone t.registers) (valve_set t.registers.valve true))) (note_all t.codes (key_codes t.registers.valve)) }
 {
