@@ -1,0 +1,119 @@
+-- A stamp that is not admitted is declined, a count that does not pass is refused; else the pulses count on the day of their stamp, whether
+-- it is turned first or stands.
+use Rattle.std.proofs.Common.{◌≡◌, List, ℕ, ◌+◌, ◌≤◌, refl, sym, ap, subst, ◌∙◌, arith}
+use Rattle.answer.specs.declared.Answer.TheVariants.{Accepted}
+use Rattle.calendar.specs.declared.Stamp.{Stamp}
+use Rattle.account.specs.declared.Codes.{Codes}
+use Rattle.account.specs.Codes.{no_codes, note_all}
+use Rattle.slots.specs.declared.Force.{Force}
+use Rattle.slots.specs.World.{real}
+use Rattle.slots.specs.Slots.{force_on}
+use Rattle.slots.proofs.InForce.{its-some}
+use Rattle.state.specs.declared.Registers.{Registers}
+use Rattle.state.specs.declared.Stage.{Stage}
+use Rattle.state.specs.State.{State, state_with, alone, registers_of, with_clock}
+use Rattle.state.specs.Turn.{turn, turn_codes, turn_words, Turned}
+use Rattle.state.specs.Pulsed.{pulsed, pulse_codes}
+use Rattle.state.specs.Refusals.{stamp_refusal, pulse_refusal}
+use Rattle.state.proofs.Parts.{total-low}
+use Rattle.state.proofs.Rooms.{state, pulses-fit, turned-good, turned-clock, same-day, same_codes, same-words, alone-good, later-force, same-force}
+use Rattle.state.proofs.Admitted.{Admitted, admitted}
+use Rattle.meter.specs.declared.Meter.{Meter}
+use Rattle.meter.specs.Call.{pulses}
+use Rattle.meter.specs.Refusals.{own_refusal}
+use Rattle.meter.specs.Effects.{effect_of, codes_of}
+use Rattle.meter.specs.Machine.{meter_of, state_in, accepted_of}
+use Rattle.meter.proofs.Outcomes.{not-admitted, denied, accepts}
+use Rattle.meter.proofs.Machine.pulses.Goals as goal
+use Rattle.meter.proofs.Machine.pulses.Goals.{then-self-date, else-self-date}
+
+-- whether the day turned or not, registers, words and codes are those of the turn but for the clock, and the slot is that in force on the
+-- stamp's date
+record Met (m : Meter) (s : Stamp) (r : Registers) (h : List ℕ) (n : Codes) (f : Force) : Type 0 where
+  registers : with_clock (alone r) s ≡ alone (registers_of (turn real (state_in m) s))
+  words : h ≡ turn_words m.machine.registers s m.held
+  codes : n ≡ note_all no_codes (turn_codes real (state_in m) s)
+  force : f ≡ force_on real (turn real (state_in m) s).slots s.date
+
+-- a day that turned
+met-turned : (m : Meter) (s : Stamp) (t : Stage) {r : Registers} {g h : List ℕ} {n : Codes} {f e : Force} →
+    Turned m.machine.registers m.held s t g → e ≡ force_on real m.machine.registers.slots s.date →
+    r ≡ t.registers → h ≡ g → n ≡ t.codes → f ≡ e → Met m s r h n f
+unfolding state_with
+met-turned m s t q i a b c d = record {
+  registers = ap (λ (x : Registers). with_clock (alone x) s) (a ∙ q.0) ∙ turned-clock (state_in m) s;
+  words = b ∙ q.1;
+  codes = c ∙ q.2;
+  force = d ∙ i ∙ later-force (state_in m) s;
+}
+
+-- a day that stands
+met-same : (m : Meter) (s : Stamp) {r : Registers} {h : List ℕ} {n k : Codes} {f e : Force} → stamp_refusal real (state_in m) s ≡ Accepted →
+    s.date ≤ m.machine.registers.clock.date → k ≡ no_codes → e ≡ force_on real m.machine.registers.slots m.machine.registers.clock.date →
+    r ≡ m.machine.registers → h ≡ m.held → n ≡ k → f ≡ e → Met m s r h n f
+unfolding note_all state_with
+met-same m s p l j i a b c d = record {
+  registers = ap (λ (x : Registers). with_clock (alone x) s) a ∙ same-day m.machine.registers m.held s l;
+  words = b ∙ sym (same-words m.machine.registers m.held s l);
+  codes = c ∙ j ∙ sym (ap (note_all no_codes) (same_codes m.machine.registers m.held s l));
+  force = d ∙ i ∙ same-force (state_in m) s p l;
+}
+
+pub admit-d-requires : goal.admit-d-requires
+admit-d-requires c = its-some real c.args.self.registers.slots c.force-was.ensures
+
+pub returns-in_default : goal.returns-in_default
+returns-in_default c =
+    not-admitted (meter_of c.args.self c.args.words.now) (pulses c.args.p) _ _ _ c.admit-d.ensures c.in_default.is c.declined.ensures
+
+pub vet-a-requires : goal.vet-a-requires
+unfolding state_with
+vet-a-requires c =
+    let a : Admitted (state_in (meter_of c.args.self c.args.words.now)) c.args.p.stamp c.in-On.date = admitted _ _ _ (sym c.admit-d.ensures ∙ c.in-On.is) in
+    total-low real _ (state _ a.bounds)
+
+pub returns-in_default-a : goal.returns-in_default-a
+unfolding own_refusal state_with
+returns-in_default-a c =
+    let a : Admitted (state_in (meter_of c.args.self c.args.words.now)) c.args.p.stamp c.in-On.date = admitted _ _ _ (sym c.admit-d.ensures ∙ c.in-On.is) in
+    denied (meter_of c.args.self c.args.words.now) (pulses c.args.p) a.passed _ _ _ c.vet-a.ensures c.in_default-a.is c.denied.ensures
+
+pub turn-t-requires : goal.turn-t-requires
+unfolding state_with
+turn-t-requires c =
+    let a : Admitted (state_in (meter_of c.args.self c.args.words.now)) c.args.p.stamp c.in-On.date = admitted _ _ _ (sym c.admit-d.ensures ∙ c.in-On.is) in
+    record { words_value = a.bounds; stamp_value = a.stamp; date_value = a.date }
+
+pub pulsed-after-requires : goal.pulsed-after-requires
+unfolding registers_of state_with
+pulsed-after-requires c =
+    let u : Meter = meter_of c.args.self c.args.words.now in
+    let m : State = state_in u in
+    let s : Stamp = c.args.p.stamp in
+    let a : Admitted m s c.in-On.date = admitted _ _ _ (sym c.admit-d.ensures ∙ c.in-On.is) in
+    let e : Met u s c.if-self-date.s c.if-self-date.words c.if-self-date.codes c.if-self-date.f = elim c.if-self-date.branch [
+      then-self-date w ↦ met-turned u s _ w.turn-t.ensures (w.force-f.ensures ∙ ap (force_on real c.args.self.registers.slots) a.date) w.s-is w.words-is w.codes-is w.f-is
+    | else-self-date w ↦ met-same u s a.passed (omega (arith, w.if-self-date.false, a.date)) c.none-codes.ensures c.force-was.ensures w.s-is w.words-is w.codes-is w.f-is
+    ] in
+    record {
+      stamp_value = rw e.registers (alone-good _ (turned-good m s a.passed));
+      f_value = e.force ∙ sym (ap (λ (x : State). force_on real x.slots s.date) e.registers);
+      n_bound = subst (λ (x : State). x.volumes.total.0 + c.args.p.count.0 ≤ 99999999) (sym e.registers)
+          (pulses-fit m s c.args.p.count.0 (sym c.vet-a.ensures ∙ c.in-Accepted.is));
+    }
+
+pub returns : goal.returns
+unfolding own_refusal effect_of codes_of state_with
+returns c =
+    let u : Meter = meter_of c.args.self c.args.words.now in
+    let m : State = state_in u in
+    let s : Stamp = c.args.p.stamp in
+    let a : Admitted m s c.in-On.date = admitted _ _ _ (sym c.admit-d.ensures ∙ c.in-On.is) in
+    let e : Met u s c.if-self-date.s c.if-self-date.words c.if-self-date.codes c.if-self-date.f = elim c.if-self-date.branch [
+      then-self-date w ↦ met-turned u s _ w.turn-t.ensures (w.force-f.ensures ∙ ap (force_on real c.args.self.registers.slots) a.date) w.s-is w.words-is w.codes-is w.f-is
+    | else-self-date w ↦ met-same u s a.passed (omega (arith, w.if-self-date.false, a.date)) c.none-codes.ensures c.force-was.ensures w.s-is w.words-is w.codes-is w.f-is
+    ] in
+    let t : Stage = record { registers = registers_of (turn real m s); codes = note_all no_codes (turn_codes real m s) } in
+    accepts u (pulses c.args.p) a.passed t _ _ (sym c.vet-a.ensures ∙ c.in-Accepted.is) (refl, e.words, refl)
+    (c.accepted.ensures ∙ rw (c.pulsed-after.ensures.0, c.pulsed-after.ensures.1, e.codes)
+    (ap (λ (x : State). accepted_of (registers_of (pulsed real x c.args.p.count.0)) (note_all t.codes (pulse_codes real x c.args.p.count.0))) e.registers))
