@@ -1,5 +1,5 @@
 -- What admission tells: a stamp that was admitted, and the reading of a stamp.
-use mathlib.Core.Path.{◌≡◌, refl, ap, ◌∙◌}
+use mathlib.Core.Path.{◌≡◌, refl}
 use mathlib.Core.Bool.{Bool, true, false, cond}
 use Prim.Native.Nat.{ℕ}
 use native.Mathlib.Omega.{arith}
@@ -9,9 +9,7 @@ use Rattle.answer.proofs.Tests.{split, need-both}
 use Rattle.calendar.specs.declared.Stamp.{Stamp}
 use Rattle.calendar.specs.declared.Dated.TheVariants.{On, Refused as Off}
 use Rattle.calendar.specs.Stamp.{is_stamp, dated, not_before}
-use Rattle.slots.specs.declared.Force.{Force}
 use Rattle.slots.specs.World.{World, real}
-use Rattle.slots.specs.Slots.{force_on}
 use Rattle.state.specs.State.{State}
 use Rattle.state.specs.Bounds.{stamp_good, bounded}
 use Rattle.state.specs.Refusals.{stamp_refusal, dated_by}
