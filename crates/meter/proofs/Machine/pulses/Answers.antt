@@ -14,7 +14,7 @@ use Rattle.state.specs.declared.Stage.{Stage}
 use Rattle.state.specs.State.{State, state_with, alone, registers_of, with_clock}
 use Rattle.state.specs.Turn.{turn, turn_codes, turn_words, Turned}
 use Rattle.state.specs.Pulsed.{pulsed, pulse_codes}
-use Rattle.state.specs.Refusals.{stamp_refusal, pulse_refusal}
+use Rattle.state.specs.Refusals.{stamp_refusal}
 use Rattle.state.proofs.Parts.{total-low}
 use Rattle.state.proofs.Rooms.{state, pulses-fit, turned-good, turned-clock, same-day, same_codes, same-words, alone-good, later-force, same-force}
 use Rattle.state.proofs.Admitted.{Admitted, admitted}
@@ -92,8 +92,8 @@ pulsed-after-requires c =
     let s : Stamp = c.args.p.stamp in
     let a : Admitted m s c.in-On.date = admitted _ _ _ (sym c.admit-d.ensures ∙ c.in-On.is) in
     let e : Met u s c.if-self-date.s c.if-self-date.words c.if-self-date.codes c.if-self-date.f = elim c.if-self-date.branch [
-      then-self-date w ↦ met-turned u s _ w.turn-t.ensures (w.force-f.ensures ∙ ap (force_on real c.args.self.registers.slots) a.date) w.s-is w.words-is w.codes-is w.f-is
-    | else-self-date w ↦ met-same u s a.passed (omega (arith, w.if-self-date.false, a.date)) c.none-codes.ensures c.force-was.ensures w.s-is w.words-is w.codes-is w.f-is
+      | then-self-date w ↦ met-turned u s _ w.turn-t.ensures (w.force-f.ensures ∙ ap (force_on real c.args.self.registers.slots) a.date) w.s-is w.words-is w.codes-is w.f-is
+      | else-self-date w ↦ met-same u s a.passed (omega (arith, w.if-self-date.false, a.date)) c.none-codes.ensures c.force-was.ensures w.s-is w.words-is w.codes-is w.f-is
     ] in
     record {
       stamp_value = rw e.registers (alone-good _ (turned-good m s a.passed));
@@ -110,8 +110,8 @@ returns c =
     let s : Stamp = c.args.p.stamp in
     let a : Admitted m s c.in-On.date = admitted _ _ _ (sym c.admit-d.ensures ∙ c.in-On.is) in
     let e : Met u s c.if-self-date.s c.if-self-date.words c.if-self-date.codes c.if-self-date.f = elim c.if-self-date.branch [
-      then-self-date w ↦ met-turned u s _ w.turn-t.ensures (w.force-f.ensures ∙ ap (force_on real c.args.self.registers.slots) a.date) w.s-is w.words-is w.codes-is w.f-is
-    | else-self-date w ↦ met-same u s a.passed (omega (arith, w.if-self-date.false, a.date)) c.none-codes.ensures c.force-was.ensures w.s-is w.words-is w.codes-is w.f-is
+      | then-self-date w ↦ met-turned u s _ w.turn-t.ensures (w.force-f.ensures ∙ ap (force_on real c.args.self.registers.slots) a.date) w.s-is w.words-is w.codes-is w.f-is
+      | else-self-date w ↦ met-same u s a.passed (omega (arith, w.if-self-date.false, a.date)) c.none-codes.ensures c.force-was.ensures w.s-is w.words-is w.codes-is w.f-is
     ] in
     let t : Stage = record { registers = registers_of (turn real m s); codes = note_all no_codes (turn_codes real m s) } in
     accepts u (pulses c.args.p) a.passed t _ _ (sym c.vet-a.ensures ∙ c.in-Accepted.is) (refl, e.words, refl)
