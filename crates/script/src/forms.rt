@@ -17,6 +17,7 @@ fn plain(kind: Kind, numbers: usize) -> Form
 }
 
 // The questions by number.
+#[tactic(auto, unfolding(crate::specs::Forms::form_in, crate::specs::Forms::numbered))]
 fn numbered_form(w: &[u8]) -> Form
     ensures { result ≡ form_in numbered w.now }
 {
@@ -38,6 +39,7 @@ fn numbered_form(w: &[u8]) -> Form
 }
 
 // The other questions.
+#[tactic(auto, unfolding(crate::specs::Forms::form_in, crate::specs::Forms::questions))]
 fn question_form(w: &[u8]) -> Form
     ensures { result ≡ form_in questions w.now }
 {
@@ -54,6 +56,7 @@ fn question_form(w: &[u8]) -> Form
 }
 
 // The calls on the valve and the clock.
+#[tactic(auto, unfolding(crate::specs::Forms::form_in, crate::specs::Forms::valves))]
 fn valve_form(w: &[u8]) -> Form
     ensures { result ≡ form_in valves w.now }
 {
@@ -70,6 +73,7 @@ fn valve_form(w: &[u8]) -> Form
 }
 
 // The other calls, and behind them all the rest.
+#[tactic(auto, unfolding(crate::specs::Forms::form_of, crate::specs::Forms::form_in, crate::specs::Forms::entries))]
 pub fn form_of(w: &[u8]) -> Form
     ensures { result ≡ form_of w.now }
 {

@@ -79,6 +79,7 @@ fn need(holds: bool, fault: u8, rest: Verdict) -> Verdict
 }
 
 // The first fault of a content; the tests stand in reverse.
+#[tactic(auto, unfolding(crate::specs::Faults::verdict_of))]
 fn verdict_of(f: Form, s: &[u8]) -> Verdict
     ensures { result ≡ verdict_of f s.now }
 {
@@ -90,6 +91,7 @@ fn verdict_of(f: Form, s: &[u8]) -> Verdict
     need(!words::has_gap(s), 5, v)
 }
 
+#[tactic(auto, unfolding(crate::specs::Orders::stamp_in))]
 fn stamp_in(s: &[u8]) -> Stamp
     ensures { result ≡ stamp_in s.now }
 {
@@ -100,6 +102,7 @@ fn stamp_in(s: &[u8]) -> Stamp
 }
 
 // What a content says that is a call with more than its stamp.
+#[tactic(auto, unfolding(crate::specs::Orders::said_by))]
 fn pulses_in(s: &[u8]) -> Order
     ensures { result ≡ said_by Kind.Pulse s.now }
 {
@@ -112,6 +115,7 @@ fn pulses_in(s: &[u8]) -> Order
     )
 }
 
+#[tactic(auto, unfolding(crate::specs::Orders::said_by))]
 fn recharge_in(s: &[u8]) -> Order
     ensures { result ≡ said_by Kind.Recharge s.now }
 {
@@ -125,6 +129,7 @@ fn recharge_in(s: &[u8]) -> Order
     )
 }
 
+#[tactic(auto, unfolding(crate::specs::Orders::said_by))]
 fn alarms_in(s: &[u8]) -> Order
     ensures { result ≡ said_by Kind.Alarms s.now }
 {
@@ -138,6 +143,7 @@ fn alarms_in(s: &[u8]) -> Order
     )
 }
 
+#[tactic(auto, unfolding(crate::specs::Orders::said_by))]
 fn command_in(s: &[u8]) -> Order
     ensures { result ≡ said_by Kind.Command s.now }
 {
@@ -150,6 +156,7 @@ fn command_in(s: &[u8]) -> Order
     )
 }
 
+#[tactic(auto, unfolding(crate::specs::Orders::said_by))]
 fn load_in(s: &[u8]) -> Order
     ensures { result ≡ said_by Kind.Plan s.now }
 {
@@ -164,6 +171,7 @@ fn load_in(s: &[u8]) -> Order
 }
 
 // What a content without a fault says.
+#[tactic(auto, unfolding(crate::specs::Orders::said_by))]
 fn said(kind: Kind, s: &[u8]) -> Order
     ensures { result ≡ said_by kind s.now }
 {
@@ -186,6 +194,7 @@ fn said(kind: Kind, s: &[u8]) -> Order
 }
 
 // The record of a plan, put at the start of the buffer.
+#[tactic(auto, unfolding(crate::specs::Orders::record_by))]
 fn put_record(f: Form, s: &[u8], room: &mut [u8])
     requires { length s.now ≤ 2 * length room.old }
     ensures { room.new ≡ starting_with (record_by f s.now) room.old }

@@ -1,0 +1,16 @@
+-- A form without a record leaves the buffer. A word that is put is no longer than the content.
+use Rattle.std.proofs.Common.{arith}
+use borrow.Author.Tests.{le-leb}
+use Rattle.text.proofs.Behind.{nothing}
+use Rattle.words.proofs.Lengths.{word-most}
+use Rattle.script.specs.Orders.{record_by}
+use Rattle.script.proofs.put_record.Goals as goal
+
+pub returns-then-f : goal.returns-then-f
+unfolding record_by
+returns-then-f c = rw (le-leb _ _ c.if-f.true) (nothing c.args.room.now).buffer
+
+pub put_pairs-requires : goal.put_pairs-requires
+put_pairs-requires c =
+    let most = word-most c.args.s.now c.args.f.words in
+    rw c.word.ensures (omega arith)
