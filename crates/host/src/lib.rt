@@ -86,6 +86,7 @@ pub struct PartReply {
 }
 
 // Any answer, as a flag and a number.
+#[tactic(auto, unfolding(crate::specs::Replies::verdict_of))]
 fn verdict_of(a: Answer) -> Verdict
     ensures { result ≡ verdict_of a }
 {
@@ -101,6 +102,7 @@ fn verdict_of(a: Answer) -> Verdict
     }
 }
 
+#[tactic(auto, unfolding(crate::specs::Replies::reply_of, crate::specs::Replies::verdict_of))]
 fn reply_of(d: Done) -> Reply
     ensures { result ≡ reply_of d }
 {

@@ -8,6 +8,7 @@ use crate::{PartReply, PlanReply, Verdict};
 use plan::Plan;
 use record::Choice;
 
+#[tactic(auto, unfolding(crate::specs::Replies::plan_reply_of, crate::specs::Replies::verdict_of))]
 #[unsafe(no_mangle)]
 pub extern "C" fn harpdapple_plan_read(bytes: &[u8]) -> PlanReply
     ensures { result ≡ plan_reply_of (read_of bytes.now) }
@@ -31,6 +32,7 @@ pub extern "C" fn harpdapple_plan_write(plan: Plan, out: &mut [u8]) -> Verdict
     crate::verdict_of(a)
 }
 
+#[tactic(auto, unfolding(crate::specs::Replies::part_reply_of))]
 #[unsafe(no_mangle)]
 pub extern "C" fn harpdapple_record_in_force<'a>(
     first: &'a [u8],

@@ -13,6 +13,7 @@ use records::{Fetched, Heavy, Record};
 use slots::Stepped;
 use units::{Hundredths, Shown, TenThousandths, VolumeSum};
 
+#[tactic(auto, unfolding(crate::specs::Replies::step_reply_of))]
 fn step_reply(m: Machine, words: &Words) -> StepReply
     ensures { result ≡ step_reply_of (step_answer (state_in (meter_of m words.now))) }
 {
@@ -34,6 +35,7 @@ fn step_reply(m: Machine, words: &Words) -> StepReply
     }
 }
 
+#[tactic(auto, unfolding(crate::specs::Replies::display_reply_of))]
 fn display_reply(m: Machine, words: &Words) -> DisplayReply
     ensures { result ≡ display_reply_of (display_answer (state_in (meter_of m words.now))) }
 {
@@ -52,6 +54,7 @@ fn display_reply(m: Machine, words: &Words) -> DisplayReply
     }
 }
 
+#[tactic(auto, unfolding(crate::specs::Replies::record_reply_of))]
 fn record_reply(place: usize, a: Fetched) -> RecordReply
     ensures { result ≡ record_reply_of place a }
 {
@@ -88,6 +91,7 @@ fn month_reply(m: Machine, words: &Words, k: usize) -> RecordReply
     record_reply(k, a)
 }
 
+#[tactic(auto, unfolding(crate::specs::Replies::heavy_reply_of))]
 fn heavy_found(a: Heavy) -> RecordReply
     ensures { result ≡ heavy_reply_of a }
 {
@@ -152,6 +156,7 @@ pub extern "C" fn harpdapple_heavy(meter: &Meter, volume: Hundredths) -> RecordR
     heavy_reply((*meter).machine, &(*meter).held, volume)
 }
 
+#[tactic(auto, unfolding(crate::specs::Replies::sum_reply_of))]
 fn sum_reply(a: Summed) -> SumReply
     ensures { result ≡ sum_reply_of a }
 {
