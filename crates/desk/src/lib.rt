@@ -27,6 +27,7 @@ pub struct Played {
 
 impl Desk {
     // A fresh meter and a blank ledger.
+    #[tactic(auto, unfolding(crate::specs::Desk::new_desk))]
     pub fn new() -> Desk
         ensures { result ≡ new_desk }
     {
@@ -52,6 +53,7 @@ impl Desk {
     }
 
     // The ledger told of an accepted call; it looks at pulses, recharges and loads.
+    #[tactic(auto, unfolding(book::specs::Kept::entered_book))]
     fn entered(book: Book, c: Call, bytes: &[u8]) -> Book
         ensures { result ≡ entered_book book (call_of c bytes.now) }
     {
