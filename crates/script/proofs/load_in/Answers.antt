@@ -1,5 +1,4 @@
 -- The record has half as many bytes as its word has digits.
-use Rattle.std.proofs.Common.{rules}
 use Rattle.words.proofs.Lengths.{bytes-length}
 use Rattle.script.specs.Orders.{said_by}
 use Rattle.script.proofs.load_in.Goals as goal

@@ -1,5 +1,5 @@
 -- A line is empty, or has a fault, or says what its words say.
-use Rattle.std.proofs.Common.{◌≡◌, ℕ, List, arith, sym, ap, ◌∙◌}
+use Rattle.std.proofs.Common.{ℕ, List, arith, sym, ap, ◌∙◌}
 use Rattle.text.specs.Decimal.{starting_with}
 use Rattle.text.proofs.Behind.{nothing}
 use Rattle.words.proofs.Lengths.{content-most}
