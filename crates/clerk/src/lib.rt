@@ -47,6 +47,7 @@ fn idle(desk: Desk) -> Played
 }
 
 // A call on the desk; what is no call leaves it as it is.
+#[tactic(auto, unfolding(crate::specs::Clerk::played_by))]
 fn called(desk: Desk, order: Order, room: &[u8]) -> Played
     ensures { result ≡ played_by desk order (take (size_of order) room.now) }
 {
@@ -60,6 +61,7 @@ fn called(desk: Desk, order: Order, room: &[u8]) -> Played
 }
 
 // The answer to a question on the meter.
+#[tactic(auto, unfolding(crate::specs::Clerk::QuerySaid))]
 fn queried(m: Registers, words: &Words, q: Query, out: &mut [u8]) -> usize
     requires { 320 ≤ length out.old }
     ensures { Answered (QuerySaid (state_of m words.now) q) out.old result out.new }
@@ -74,6 +76,7 @@ fn queried(m: Registers, words: &Words, q: Query, out: &mut [u8]) -> usize
 }
 
 // The answer to a line, from the meter before it and what a call did.
+#[tactic(auto, unfolding(crate::specs::Clerk::Said))]
 fn answered(
     m: Registers,
     words: &Words,
