@@ -1,5 +1,6 @@
 // The queries: each by value first, then over a lent meter; and the sum over a lent list.
 ghost use Rattle.std.specs.Prelude.{◌≡◌};
+ghost use Rattle.units.specs.Display.{shown};
 ghost use Rattle.meter.specs.Machine.{meter_of, state_in};
 ghost use Rattle.query.specs.Queries.{step_answer, display_answer, day_answer, month_answer, sum_answer};
 ghost use Rattle.host.specs.Replies.{step_reply_of, display_reply_of, record_reply_of, heavy_reply_of, HeavyReplied, sum_reply_of};
@@ -11,7 +12,7 @@ use query::{Displayed, Summed};
 use records::held::Words;
 use records::{Fetched, Heavy, Record};
 use slots::Stepped;
-use units::{Hundredths, Shown, TenThousandths, VolumeSum};
+use units::{Hundredths, Millionths, Shown, TenThousandths, VolumeSum};
 
 #[tactic(auto, unfolding(crate::specs::Replies::step_reply_of))]
 fn step_reply(m: Machine, words: &Words) -> StepReply
@@ -133,6 +134,14 @@ pub extern "C" fn harpdapple_display(meter: &Meter) -> DisplayReply
     ensures { result ≡ display_reply_of (display_answer (state_in meter.now)) }
 {
     display_reply((*meter).machine, &(*meter).held)
+}
+
+// What the display shows of any balance.
+#[unsafe(no_mangle)]
+pub extern "C" fn harpdapple_shown(balance: Millionths) -> Shown
+    ensures { result ≡ shown balance }
+{
+    balance.display()
 }
 
 #[unsafe(no_mangle)]
