@@ -4,7 +4,7 @@
   bench/core.py        in the repository's root, after `rt lib` in crates/host; needs gcc, rustc, valgrind and size
 
 Instructions a call are counted by callgrind: those of 2,000 calls less those of 1,000. Times are those of bench/core.rs.
-Stack is what bench/stack.c sees. Code is the text of an executable with every function of the header, less that of one
+Stack is what bench/stack.c sees, linked so that no call looks memcpy up. Code is the text of an executable with every function of the header, less that of one
 with none.
 """
 import os
@@ -44,7 +44,7 @@ def text_size(path):
 
 def code_size():
     header = open('include/harpdapple.h', encoding='utf-8').read()
-    names = sorted(set(re.findall(r'\b(harpdapple_\w+)\(', header)))
+    names = re.findall(r'^(?!static)\w[\w *]*\b(harpdapple_\w+)\(', header, re.M)
     sizes = []
     for name, used in (('all', names), ('none', [])):
         source = '%s/%s.c' % (ROOM, name)
@@ -62,7 +62,7 @@ def main():
     run('sh', '-c', 'cd crates/host && rt lib')
     run('rustc', '--edition', '2021', '-O', '-o', ROOM + '/core', 'bench/core.rs', '-L', 'crates/host/out', '-l', 'static=host')
     run('gcc', '-std=c11', '-O2', '-Wall', '-Wextra', '-Iinclude', 'bench/stack.c', 'crates/host/out/libhost.a', '-pthread',
-        '-o', ROOM + '/stack')
+        '-Wl,-z,now', '-o', ROOM + '/stack')
     if not os.path.exists(RECORDS):
         made = subprocess.run(['python3', 'tests/records.py', 'many', '10000'], capture_output=True, check=True).stdout
         open(RECORDS, 'wb').write(made)

@@ -17,63 +17,11 @@ static const uint8_t plan_a[HARPDAPPLE_RECORD_BYTES] = {
     0x20, 0x20, 0x01, 0x01, 0x20, 0x21, 0x01, 0x01, 0x02, 0x01, 0x00, 0x00, 0x00, 0x00, 0x00, 0x00, 0x00,
     0x00, 0x00, 0x00, 0x25, 0x00, 0x00, 0x02, 0x60, 0x00, 0x99, 0x99, 0x99, 0x99, 0x00, 0x03, 0x15, 0x00};
 
-static const char *refusal_words(uint8_t refusal)
-{
-    switch (refusal) {
-    case HARPDAPPLE_REFUSED_METER: return "the meter breaks its bounds";
-    case HARPDAPPLE_REFUSED_LENGTH: return "the plan record has not 66 bytes";
-    case HARPDAPPLE_REFUSED_STEPS: return "the plan's steps are not 1 to 6";
-    case HARPDAPPLE_REFUSED_WORD: return "the plan's cycle word is not 1 to 5";
-    case HARPDAPPLE_REFUSED_DIGIT: return "the plan has a digit above 9";
-    case HARPDAPPLE_REFUSED_DATE: return "the plan has a date that is not in the calendar";
-    case HARPDAPPLE_REFUSED_NO_DAY: return "the plan has no day in force";
-    case HARPDAPPLE_REFUSED_PRICE: return "the plan has a price of 0";
-    case HARPDAPPLE_REFUSED_STAMP: return "not a date, or not a second of a day";
-    case HARPDAPPLE_REFUSED_EARLIER: return "before the last accepted call";
-    case HARPDAPPLE_REFUSED_SLOT: return "the slot is not 1 or 2";
-    case HARPDAPPLE_REFUSED_BUSY: return "the slot's plan is in force";
-    case HARPDAPPLE_REFUSED_BOTH: return "both plans would be in force on one date";
-    case HARPDAPPLE_REFUSED_PULSES: return "more than 65,535 pulses";
-    case HARPDAPPLE_REFUSED_TOTAL: return "the total volume is full";
-    case HARPDAPPLE_REFUSED_SERIAL: return "the serial is not 1 to 65,535";
-    case HARPDAPPLE_REFUSED_SERIAL_AGAIN: return "the last serial again";
-    case HARPDAPPLE_REFUSED_SERIAL_BELOW: return "a serial below the last";
-    case HARPDAPPLE_REFUSED_SERIAL_SKIPPED: return "a serial was skipped";
-    case HARPDAPPLE_REFUSED_NO_AMOUNT: return "no amount";
-    case HARPDAPPLE_REFUSED_TOP_BALANCE: return "the balance would pass 999,999.99 yuan";
-    case HARPDAPPLE_REFUSED_COMMAND: return "an unknown command";
-    case HARPDAPPLE_REFUSED_KEY: return "the valve may not open now";
-    case HARPDAPPLE_REFUSED_ALARMS: return "the alarms are out of order";
-    case HARPDAPPLE_REFUSED_NO_PLAN: return "no plan is in force";
-    case HARPDAPPLE_REFUSED_NOT_HELD: return "no such record is held";
-    case HARPDAPPLE_REFUSED_BUFFER: return "the buffer has not 66 bytes";
-    case HARPDAPPLE_REFUSED_NO_HEAVY_DAY: return "no day was that heavy";
-    default: return "unknown";
-    }
-}
-
-static const char *code_words(uint32_t code)
-{
-    switch (code) {
-    case HARPDAPPLE_CODE_PLAN_EXPIRED: return "plan expired";
-    case HARPDAPPLE_CODE_VALVE_CLOSED: return "valve closed";
-    case HARPDAPPLE_CODE_VALVE_OPENED: return "valve opened";
-    case HARPDAPPLE_CODE_RECHARGED: return "recharged";
-    case HARPDAPPLE_CODE_SETTINGS: return "settings changed";
-    case HARPDAPPLE_CODE_COMMAND: return "command carried out";
-    case HARPDAPPLE_CODE_ALARM_1: return "balance at alarm 1";
-    case HARPDAPPLE_CODE_ALARM_2: return "balance at alarm 2";
-    case HARPDAPPLE_CODE_ZERO: return "balance at zero";
-    case HARPDAPPLE_CODE_DEBT: return "in debt";
-    default: return "unknown";
-    }
-}
-
 /* An answer that this host did not expect: it says why and stops. */
 static void must(bool accepted, uint8_t refusal, const char *what)
 {
     if (!accepted) {
-        printf("%s: refused %u, %s\n", what, (unsigned)refusal, refusal_words(refusal));
+        printf("%s: refused %u, %s\n", what, (unsigned)refusal, harpdapple_refusal_text(refusal));
         exit(EXIT_FAILURE);
     }
 }
@@ -102,7 +50,7 @@ static void print_display(const struct harpdapple_meter *meter)
         print_yuan((int64_t)step.step.price);
         printf(" for a m3");
     } else {
-        printf(", no step: %s", refusal_words(step.refusal));
+        printf(", no step: %s", harpdapple_refusal_text(step.refusal));
     }
     printf(", the valve is %s\n", meter->valve.open ? "open" : "closed");
 }
@@ -113,11 +61,11 @@ static void print_reply(const struct harpdapple_meter *meter, const char *what, 
 {
     printf("%08" PRIu32 " second %5" PRIu32 ": %s", stamp.date, stamp.second, what);
     if (!reply.accepted) {
-        printf(": refused %u, %s\n", (unsigned)reply.refusal, refusal_words(reply.refusal));
+        printf(": refused %u, %s\n", (unsigned)reply.refusal, harpdapple_refusal_text(reply.refusal));
         return;
     }
     for (size_t i = 0; i < reply.codes.count; i++) {
-        printf("%s %" PRIX32 " (%s)", i == 0 ? ": code" : ",", reply.codes.said[i], code_words(reply.codes.said[i]));
+        printf("%s %" PRIX32 " (%s)", i == 0 ? ": code" : ",", reply.codes.said[i], harpdapple_code_text(reply.codes.said[i]));
     }
     printf("\n");
     print_display(meter);
@@ -132,21 +80,15 @@ static void draw(struct harpdapple_meter *meter, uint32_t date, uint32_t second,
     print_reply(meter, what, call.stamp, reply);
 }
 
-/* Millionths as the display shows them: the greatest whole number of ten-thousandths not above, for debts too. */
-static int64_t shown(int64_t millionths)
-{
-    return millionths / 100 - (millionths % 100 < 0 ? 1 : 0);
-}
-
 static void print_record(const char *what, struct harpdapple_record_reply reply)
 {
     must(reply.accepted, reply.refusal, what);
     printf("%s of %08" PRIu32 ": ", what, reply.held.date);
     print_volume(reply.held.volume);
     printf(", charge ");
-    print_yuan(shown((int64_t)reply.held.charge));
+    print_yuan(harpdapple_shown((int64_t)reply.held.charge));
     printf(", closing balance ");
-    print_yuan(shown(reply.held.closing));
+    print_yuan(harpdapple_shown(reply.held.closing));
     printf("\n");
 }
 

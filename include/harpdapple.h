@@ -4,6 +4,8 @@
  * The library keeps nothing. The host keeps one struct for each meter, lends it to the calls, and may copy it with
  * `=` or memcpy. There is no allocation, no lock and no global: two threads may work on two meters at once, not on one.
  *
+ * What it takes: 4,680 bytes for a meter, at most 3.5 KB of stack for a call and 1 KB for a query, some 50 KB of code.
+ *
  * Every function answers any argument and any meter. An answer has `accepted`; where it is false, `refusal` holds one
  * of the HARPDAPPLE_REFUSED numbers, every other field of the answer is 0, and the meter and all lent bytes stand as
  * they were before the call. `refusal` is 0 too where `accepted` is true, so look at `accepted` first.
@@ -15,7 +17,8 @@
  * ten-thousandths for a m3 times a volume in hundredths is an amount in millionths. Dates are the decimal number
  * YYYYMMDD, 20000101 to 20991231. A stamp is a date and a second of it; second 0 belongs to the day that it begins.
  *
- * Link with -lhost (libhost.a, built by `rt lib` in crates/host); the archive is for x86-64 Linux.
+ * The archive is for x86-64 Linux, little-endian: `rt lib` in crates/host writes libhost.a, `make install` puts it and this
+ * header in place, and `pkg-config --cflags --libs harpdapple` tells where; by hand, link with -lhost.
  */
 #ifndef HARPDAPPLE_H
 #define HARPDAPPLE_H
@@ -27,6 +30,12 @@
 #ifdef __cplusplus
 extern "C" {
 #endif
+
+/* The version of the rules, of these functions and of the layout of a meter together; CHANGELOG.md says what changed. */
+#define HARPDAPPLE_VERSION_MAJOR 0
+#define HARPDAPPLE_VERSION_MINOR 2
+#define HARPDAPPLE_VERSION_PATCH 0
+#define HARPDAPPLE_VERSION "0.2.0"
 
 #define HARPDAPPLE_RECORD_BYTES 66 /* length of a plan record */
 #define HARPDAPPLE_STEPS 6         /* most steps of a plan */
@@ -282,6 +291,9 @@ struct harpdapple_step_reply harpdapple_step(const struct harpdapple_meter *mete
 /* What the display shows. Refused: 0. */
 struct harpdapple_display_reply harpdapple_display(const struct harpdapple_meter *meter);
 
+/* What the display shows of any balance in millionths, a record's closing balance too: ten-thousandths of a yuan. */
+int64_t harpdapple_shown(int64_t balance);
+
 /* Day record k, month record k. Refused: 0, 25. */
 struct harpdapple_record_reply harpdapple_day(const struct harpdapple_meter *meter, size_t k);
 struct harpdapple_record_reply harpdapple_month(const struct harpdapple_meter *meter, size_t k);
@@ -327,8 +339,76 @@ struct harpdapple_verdict harpdapple_plan_write(struct harpdapple_plan plan, uin
 struct harpdapple_part_reply harpdapple_record_in_force(const uint8_t *first, size_t first_length, const uint8_t *second,
                                                         size_t second_length, uint32_t date);
 
+/* ---- Texts, in plain English ---- */
+
+/* Why a call was refused; "unknown" for a number that is none of enum harpdapple_refusal. */
+static inline const char *harpdapple_refusal_text(uint8_t refusal)
+{
+    switch (refusal) {
+    case HARPDAPPLE_REFUSED_METER: return "the meter breaks its bounds";
+    case HARPDAPPLE_REFUSED_LENGTH: return "the plan record has not 66 bytes";
+    case HARPDAPPLE_REFUSED_STEPS: return "the plan's steps are not 1 to 6";
+    case HARPDAPPLE_REFUSED_WORD: return "the plan's cycle word is not 1 to 5";
+    case HARPDAPPLE_REFUSED_DIGIT: return "the plan has a digit above 9";
+    case HARPDAPPLE_REFUSED_DATE: return "the plan has a date that is not in the calendar";
+    case HARPDAPPLE_REFUSED_NO_DAY: return "the plan has no day in force";
+    case HARPDAPPLE_REFUSED_PRICE: return "the plan has a price of 0";
+    case HARPDAPPLE_REFUSED_STAMP: return "not a date, or not a second of a day";
+    case HARPDAPPLE_REFUSED_EARLIER: return "before the last accepted call";
+    case HARPDAPPLE_REFUSED_SLOT: return "the slot is not 1 or 2";
+    case HARPDAPPLE_REFUSED_BUSY: return "the slot's plan is in force";
+    case HARPDAPPLE_REFUSED_BOTH: return "both plans would be in force on one date";
+    case HARPDAPPLE_REFUSED_PULSES: return "more than 65,535 pulses";
+    case HARPDAPPLE_REFUSED_TOTAL: return "the total volume is full";
+    case HARPDAPPLE_REFUSED_SERIAL: return "the serial is not 1 to 65,535";
+    case HARPDAPPLE_REFUSED_SERIAL_AGAIN: return "the last serial again";
+    case HARPDAPPLE_REFUSED_SERIAL_BELOW: return "a serial below the last";
+    case HARPDAPPLE_REFUSED_SERIAL_SKIPPED: return "a serial was skipped";
+    case HARPDAPPLE_REFUSED_NO_AMOUNT: return "no amount";
+    case HARPDAPPLE_REFUSED_TOP_BALANCE: return "the balance would pass 999,999.99 yuan";
+    case HARPDAPPLE_REFUSED_COMMAND: return "an unknown command";
+    case HARPDAPPLE_REFUSED_KEY: return "the valve may not open now";
+    case HARPDAPPLE_REFUSED_ALARMS: return "the alarms are out of order";
+    case HARPDAPPLE_REFUSED_NO_PLAN: return "no plan is in force";
+    case HARPDAPPLE_REFUSED_NOT_HELD: return "no such record is held";
+    case HARPDAPPLE_REFUSED_BUFFER: return "the buffer has not 66 bytes";
+    case HARPDAPPLE_REFUSED_NO_HEAVY_DAY: return "no day was that heavy";
+    default: return "unknown";
+    }
+}
+
+/* What an event code tells; "unknown" for a number that is none of HARPDAPPLE_CODE_... */
+static inline const char *harpdapple_code_text(uint32_t code)
+{
+    switch (code) {
+    case HARPDAPPLE_CODE_PLAN_EXPIRED: return "plan expired";
+    case HARPDAPPLE_CODE_VALVE_CLOSED: return "valve closed";
+    case HARPDAPPLE_CODE_VALVE_OPENED: return "valve opened";
+    case HARPDAPPLE_CODE_RECHARGED: return "recharged";
+    case HARPDAPPLE_CODE_SETTINGS: return "settings changed";
+    case HARPDAPPLE_CODE_COMMAND: return "command carried out";
+    case HARPDAPPLE_CODE_ALARM_1: return "balance at alarm 1";
+    case HARPDAPPLE_CODE_ALARM_2: return "balance at alarm 2";
+    case HARPDAPPLE_CODE_ZERO: return "balance at zero";
+    case HARPDAPPLE_CODE_DEBT: return "in debt";
+    default: return "unknown";
+    }
+}
+
 #ifdef __cplusplus
 }
+#define HARPDAPPLE_ASSERT static_assert
+#else
+#define HARPDAPPLE_ASSERT _Static_assert
 #endif
+
+/* What a host may store has these sizes, and no other compiler of the same platform may lay it out otherwise. */
+HARPDAPPLE_ASSERT(sizeof(bool) == 1 && sizeof(size_t) == 8, "harpdapple: the archive is for x86-64");
+HARPDAPPLE_ASSERT(sizeof(struct harpdapple_meter) == 4680, "harpdapple: a meter has 4,680 bytes");
+HARPDAPPLE_ASSERT(sizeof(struct harpdapple_plan) == 96, "harpdapple: a plan has 96 bytes");
+HARPDAPPLE_ASSERT(sizeof(struct harpdapple_record) == 24, "harpdapple: a record has 24 bytes");
+HARPDAPPLE_ASSERT(sizeof(struct harpdapple_reply) == 48, "harpdapple: a reply has 48 bytes");
+
+#undef HARPDAPPLE_ASSERT
 
 #endif

@@ -188,6 +188,26 @@ static void plans(void)
     SAME(harpdapple_record_in_force(plan_2020, 66, plan_2021, 66, 20220632).refusal, HARPDAPPLE_REFUSED_STAMP);
 }
 
+/* Any balance as the display shows it, and a text for each number of document 01 and for no other. */
+static void texts(void)
+{
+    SAME(harpdapple_shown(55306700), 553067);
+    SAME(harpdapple_shown(99), 0);
+    SAME(harpdapple_shown(-1), -1);
+    SAME(harpdapple_shown(-101), -2);
+    SAME(harpdapple_shown(INT64_MIN), -92233720368547759);
+    SAME(harpdapple_shown(INT64_MAX), 92233720368547758);
+    for (unsigned n = 0; n < 256; n++) {
+        SAME(strcmp(harpdapple_refusal_text((uint8_t)n), "unknown") != 0, n <= 27);
+    }
+    SAME(strcmp(harpdapple_refusal_text(HARPDAPPLE_REFUSED_BOTH), "both plans would be in force on one date"), 0);
+    SAME(strcmp(harpdapple_code_text(HARPDAPPLE_CODE_PLAN_EXPIRED), "plan expired"), 0);
+    SAME(strcmp(harpdapple_code_text(HARPDAPPLE_CODE_ALARM_2), "balance at alarm 2"), 0);
+    SAME(strcmp(harpdapple_code_text(0x99), "unknown"), 0);
+    SAME(HARPDAPPLE_VERSION_MAJOR * 10000 + HARPDAPPLE_VERSION_MINOR * 100 + HARPDAPPLE_VERSION_PATCH, 200);
+    SAME(strcmp(HARPDAPPLE_VERSION, "0.2.0"), 0);
+}
+
 int main(void)
 {
     static struct harpdapple_meter meter;
@@ -196,5 +216,6 @@ int main(void)
     two_days(&meter);
     records(&meter);
     plans();
+    texts();
     return wrong == 0 ? 0 : 1;
 }

@@ -254,6 +254,7 @@ extern "C" {
     fn harpdapple_tick(meter: *mut Meter, call: TickCall) -> Reply;
     fn harpdapple_step(meter: *const Meter) -> StepReply;
     fn harpdapple_display(meter: *const Meter) -> DisplayReply;
+    fn harpdapple_shown(balance: i64) -> i64;
     fn harpdapple_day(meter: *const Meter, k: usize) -> RecordReply;
     fn harpdapple_month(meter: *const Meter, k: usize) -> RecordReply;
     fn harpdapple_heavy(meter: *const Meter, volume: u32) -> RecordReply;
@@ -330,6 +331,10 @@ pub fn step(meter: &Meter) -> StepReply {
 /// On a meter where it lies, as a host asks.
 pub fn display_lent(meter: *const Meter) -> DisplayReply {
     unsafe { harpdapple_display(meter) }
+}
+
+pub fn shown(balance: i64) -> i64 {
+    unsafe { harpdapple_shown(balance) }
 }
 
 pub fn display(meter: &Meter) -> DisplayReply {

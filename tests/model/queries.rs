@@ -58,7 +58,9 @@ fn display(pair: &Pair, tally: &mut Tally) -> Result<(), Difference> {
         Err(refusal) => library::DisplayReply { refusal, ..Default::default() },
     };
     count(tally, Operation::Display, answer.err());
-    same("display", &library::display(&pair.host), &wanted)
+    same("display", &library::display(&pair.host), &wanted)?;
+    let balance = pair.host.account.balance;
+    same("what is shown of the balance, whatever the meter", &library::shown(balance), &balance.div_euclid(100))
 }
 
 fn place(r: &mut Random, held: usize) -> usize {
