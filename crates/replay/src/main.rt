@@ -256,5 +256,11 @@ fn main(rt: HostRuntime) -> io::Result<()> {
     let mut input = [0u8; 65_536];
     let mut room = [0u8; 32_768];
     let mut out = [0u8; 65_536];
-    play_all(&mut rt.stdin(), &mut rt.stdout(), &mut input, &mut room, &mut out)
+    play_all(
+        &mut rt.stdin(),
+        &mut rt.stdout(),
+        &mut input,
+        &mut room,
+        &mut out,
+    )
 }

@@ -7,5 +7,5 @@ invariant-loop g l = record {
   held : l.held ≤ length l.input;
   input : length l.input ≡ length l.fn.input;
   room : length l.room ≡ length l.fn.room;
-  out : length l.out ≡ length l.fn.out
+  out : length l.out ≡ length l.fn.out;
 }

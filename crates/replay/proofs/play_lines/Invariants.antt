@@ -8,7 +8,7 @@ invariant-loop-end g l = record {
   from : l.from ≤ l.end;
   end : l.end ≤ length l.input;
   room : length l.room ≡ length l.fn.room;
-  out : length l.out ≡ length l.fn.out
+  out : length l.out ≡ length l.fn.out;
 }
 
 -- each line begins behind the one before
