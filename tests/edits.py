@@ -50,7 +50,10 @@ class Function:
             self.folder = '/'.join(['proofs'] + owner + ['+' + head.group(3)])  # of one that calls itself
         self.begin, self.end = head.start(), text.find('\n' + head.group(1) + '}\n', head.end())
         self.body = text.find('\n' + head.group(1) + '{\n', head.end()) + 1
-        self.lines = range(text.count('\n', 0, self.begin) + 1, text.count('\n', 0, self.end) + 3)
+        rows, first = text.split('\n'), text.count('\n', 0, self.begin) + 1
+        while rows[first - 2].lstrip().startswith('#['):
+            first -= 1  # the prover counts a function from its attributes on
+        self.lines = range(first, text.count('\n', 0, self.end) + 3)
         self.public = head.group(2) == 'pub '
         self.promises = 'ensures' in text[self.begin:self.body]
         self.names = set(re.findall(r'\b(\w+)\(', text[self.body:self.end]))
