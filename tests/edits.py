@@ -7,6 +7,7 @@ PROGRAMS = ('calendar_check', 'plan_printer', 'replay', 'worked_sums')
 TWICE = ('host', 'account', 'records', 'slots', 'book')
 PROGRAM = 'src/main.rt'
 HEAD = re.compile(r'^( *)(pub(?:\(\w+\))? )?(?:extern "C" )?fn (\w+)', re.M)
+BLOCK = re.compile(r'^(?:pub )?(?:trait (\w+).*|impl(<.*?>)? (.*)) \{$', re.M)
 
 
 def read(crate, place):
@@ -37,25 +38,41 @@ def below(name):
     return found
 
 
+def owner_of(block):
+    """What the prover calls a trait, a type's own methods, or a trait's for a type: its words run together, without lifetimes and parameters."""
+    if block[1]:
+        return block[1]
+    trait, _, kind = block[3].split(' where ')[0].rpartition(' for ')
+    taken = re.findall(r'[<,]\s*(?:const )?(\w+)', block[2] or '')
+    words = [word for word in re.findall(r"(?<!')\b\w+", kind + ' ' + trait) if word not in taken]
+    return ''.join(word[0].upper() + word[1:] for word in words) if trait else words[0]
+
+
 class Function:
     """A function of a crate: its name in the prover's log, its proof file, where its text, contract and body stand."""
 
     def __init__(self, crate, place, text, head):
         module = os.path.basename(place)[:-len('.rt')]
-        owner = re.findall(r'^impl (\w+)', text[:head.start()], re.M)[-1:] if head.group(1) else [module]
+        block = [*BLOCK.finditer(text[:head.start()])][-1] if head.group(1) else None
+        owner = [owner_of(block)] if block else [module]
+        of_trait = bool(block) and (block[1] or ' for ' in block[3]) and 'ghost ' in text[block.start():head.start()]
         owner = [] if owner in (['lib'], ['main']) else owner
         self.name, self.place = '::'.join(owner + [head.group(3)]), place
         self.folder = '/'.join(['proofs'] + owner + [head.group(3)])
         if not os.path.isdir(os.path.join(ROOT, 'crates', crate, self.folder)):
             self.folder = '/'.join(['proofs'] + owner + ['+' + head.group(3)])  # of one that calls itself
         self.begin, self.end = head.start(), text.find('\n' + head.group(1) + '}\n', head.end())
+        stop = text.find(';\n', head.end())
+        declared = '{\n' not in text[head.end():stop]
+        if declared:
+            self.end = stop  # a trait's function with no body, which its impls promise for
         self.body = text.find('\n' + head.group(1) + '{\n', head.end()) + 1
         rows, first = text.split('\n'), text.count('\n', 0, self.begin) + 1
         while rows[first - 2].lstrip().startswith('#['):
             first -= 1  # the prover counts a function from its attributes on
         self.lines = range(first, text.count('\n', 0, self.end) + 3)
-        self.public = head.group(2) == 'pub '
-        self.promises = 'ensures' in text[self.begin:self.body]
+        self.public = head.group(2) == 'pub ' or of_trait
+        self.promises = not declared and ('ensures' in text[self.begin:self.body] or of_trait)
         self.names = set(re.findall(r'\b(\w+)\(', text[self.body:self.end]))
 
 
