@@ -1,9 +1,8 @@
 -- Case splits on a test, tests of two parts, and what a chain of refusals tells that lets a call pass.
 use mathlib.Core.Path.{◌≡◌, refl, sym}
 use mathlib.Core.Bool.{Bool, true, false, cond, ◌&&◌, ◌||◌, true≢false}
-use Prim.Native.Nat.{ℕ}
-use Rattle.answer.specs.declared.Answer.{Answer}
-use Rattle.answer.specs.declared.Answer.TheVariants.{Accepted, Refused}
+use Rattle.std.specs.Prelude.{⊤, Result, Ok, Err}
+use Rattle.answer.specs.declared.Refusal.{Refusal}
 use Rattle.answer.specs.Answer.{need, next}
 
 pub cases {ℓ} : {P : Type ℓ} (b : Bool) → (b ≡ true → P) → (b ≡ false → P) → P
@@ -53,24 +52,24 @@ pub neither : (a b : Bool) → a ≡ false → b ≡ false → (a || b) ≡ fals
 neither a b h i = rw (h, i)
 
 -- a chain that accepts: its first test holds, and so does the rest
-pub need-first : (b : Bool) (n : ℕ) (a : Answer) → need b n a ≡ Accepted → b ≡ true
+pub need-first : {T : Type 0} (b : Bool) (n : Refusal) (a : Result T Refusal) {x : T} → need b n a ≡ Ok x → b ≡ true
 need-first true n a h = refl
 need-first false n a h = cc
 
-pub need-rest : (b : Bool) (n : ℕ) (a : Answer) → need b n a ≡ Accepted → a ≡ Accepted
+pub need-rest : {T : Type 0} (b : Bool) (n : Refusal) (a : Result T Refusal) {x : T} → need b n a ≡ Ok x → a ≡ Ok x
 need-rest true n a h = h
 need-rest false n a h = cc
 
-pub need-both : {b : Bool} (n : ℕ) {a : Answer} → need b n a ≡ Accepted → (b ≡ true) × (a ≡ Accepted)
-need-both {b} n {a} h = (need-first b n a h, need-rest b n a h)
+pub need-both : {T : Type 0} {b : Bool} (n : Refusal) {a : Result T Refusal} {x : T} → need b n a ≡ Ok x → (b ≡ true) × (a ≡ Ok x)
+need-both {b = b} n {a = a} h = (need-first b n a h, need-rest b n a h)
 
-pub next-first : (a b : Answer) → next a b ≡ Accepted → a ≡ Accepted
-next-first Accepted b h = refl
-next-first (Refused n) b h = h
+pub next-first : {T : Type 0} (a : Result ⊤ Refusal) (b : Result T Refusal) {x : T} → next a b ≡ Ok x → a ≡ Ok tt
+next-first (Ok tt) b h = refl
+next-first (Err n) b h = cc
 
-pub next-rest : (a b : Answer) → next a b ≡ Accepted → b ≡ Accepted
-next-rest Accepted b h = h
-next-rest (Refused n) b h = cc
+pub next-rest : {T : Type 0} (a : Result ⊤ Refusal) (b : Result T Refusal) {x : T} → next a b ≡ Ok x → b ≡ Ok x
+next-rest (Ok tt) b h = h
+next-rest (Err n) b h = cc
 
-pub next_both : {a b : Answer} → next a b ≡ Accepted → (a ≡ Accepted) × (b ≡ Accepted)
-next_both {a} {b} h = (next-first a b h, next-rest a b h)
+pub next_both : {T : Type 0} {a : Result ⊤ Refusal} {b : Result T Refusal} {x : T} → next a b ≡ Ok x → (a ≡ Ok tt) × (b ≡ Ok x)
+next_both {a = a} {b = b} h = (next-first a b h, next-rest a b h)

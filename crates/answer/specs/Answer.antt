@@ -1,22 +1,55 @@
 -- Document 01, "Refusal by operation": refusals come in order, and the first whose condition holds is the answer.
-use Rattle.std.specs.Prelude.{Bool, true, false, cond, ℕ}
-use Rattle.answer.specs.declared.Answer.{Answer}
-use Rattle.answer.specs.declared.Answer.TheVariants.{Accepted, Refused}
+use Rattle.std.specs.Prelude.{Bool, true, false, cond, ℕ, ⊤, Result, Ok, Err}
+use Rattle.answer.specs.declared.Refusal.{Refusal}
+use Rattle.answer.specs.declared.Refusal.TheVariants.{OutOfBounds, RecordLength, Steps, CycleWord, Digits, Dates, NoDay, NoPrice, Stamp, Earlier, Slot, InForce, Overlap, Pulses, Total, Serial, SerialAgain, SerialBelow, SerialAbove, NoAmount, Balance, Command, Key, Alarms, NoPlan, NotHeld, BufferLength, NoHeavyDay}
+use Rattle.answer.specs.declared.Verdict.{Verdict}
 
--- a test that must hold, and the number that refuses where it does not
-abbrev pub need : Bool → ℕ → Answer → Answer
-need t n rest = cond t rest (Refused n)
+-- the number of each refusal
+abbrev pub number_of : Refusal → ℕ
+number_of OutOfBounds = 0
+number_of RecordLength = 1
+number_of Steps = 2
+number_of CycleWord = 3
+number_of Digits = 4
+number_of Dates = 5
+number_of NoDay = 6
+number_of NoPrice = 7
+number_of Stamp = 8
+number_of Earlier = 9
+number_of Slot = 10
+number_of InForce = 11
+number_of Overlap = 12
+number_of Pulses = 13
+number_of Total = 14
+number_of Serial = 15
+number_of SerialAgain = 16
+number_of SerialBelow = 17
+number_of SerialAbove = 18
+number_of NoAmount = 19
+number_of Balance = 20
+number_of Command = 21
+number_of Key = 22
+number_of Alarms = 23
+number_of NoPlan = 24
+number_of NotHeld = 25
+number_of BufferLength = 26
+number_of NoHeavyDay = 27
+
+-- a test that must hold, the refusal where it does not, and the answer of the tests behind it
+abbrev pub need : {T : Type 0} → Bool → Refusal → Result T Refusal → Result T Refusal
+need t n rest = cond t rest (Err n)
 
 -- one answer, and the next if it accepts
-abbrev pub next : Answer → Answer → Answer
-next Accepted k = k
-next (Refused n) k = Refused n
-
-abbrev pub is_accepted : Answer → Bool
-is_accepted Accepted = true
-is_accepted (Refused n) = false
+abbrev pub next : {T : Type 0} → Result ⊤ Refusal → Result T Refusal → Result T Refusal
+next (Ok x) k = k
+next (Err n) k = Err n
 
 -- the number that refuses; 0 where the answer accepts
-abbrev pub number_of : Answer → ℕ
-number_of Accepted = 0
-number_of (Refused n) = n
+abbrev pub refusal_in : {T : Type 0} → Result T Refusal → ℕ
+refusal_in (Ok x) = 0
+refusal_in (Err n) = number_of n
+
+-- the same in a flat struct, as a host sees it
+abbrev pub verdict_of : {T : Type 0} → Result T Refusal → Verdict
+verdict_of (Ok x) = record { accepted = true; refusal = 0 }
+verdict_of (Err n) = record { accepted = false; refusal = number_of n }

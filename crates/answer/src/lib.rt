@@ -1,44 +1,81 @@
-// What an operation answers: accepted, or the one number of document 01, "Refusal by operation".
+// Why an operation is refused: the one number of document 01, "Refusal by operation", by its name.
 #![tactic(auto)]
 
-ghost use Rattle.std.specs.Prelude.{◌≡◌};
-ghost use Rattle.answer.specs.Answer.{need, next, is_accepted};
+ghost use Rattle.std.specs.Prelude.{◌≡◌, Ok};
+ghost use Rattle.answer.specs.Answer.{need, number_of, verdict_of};
 
-#[derive(Clone, Copy)]
-pub enum Answer {
-    Accepted,
-    Refused(u8),
+// The refusals in the order of their numbers, 0 to 27.
+#[derive(Clone, Copy, Debug, PartialEq, Eq)]
+pub enum Refusal {
+    OutOfBounds,
+    RecordLength,
+    Steps,
+    CycleWord,
+    Digits,
+    Dates,
+    NoDay,
+    NoPrice,
+    Stamp,
+    Earlier,
+    Slot,
+    InForce,
+    Overlap,
+    Pulses,
+    Total,
+    Serial,
+    SerialAgain,
+    SerialBelow,
+    SerialAbove,
+    NoAmount,
+    Balance,
+    Command,
+    Key,
+    Alarms,
+    NoPlan,
+    NotHeld,
+    BufferLength,
+    NoHeavyDay,
 }
 
-impl Answer {
-    // A test that must hold, the number that refuses where it does not, and the answer of the tests behind it.
-    pub fn need(test: bool, number: u8, rest: Answer) -> Answer
-        ensures { result ≡ need test number rest }
-    {
-        if test {
-            return rest;
-        }
-        Answer::Refused(number)
-    }
+impl From<Refusal> for u8 {
+    ghost from_gives = { λ r n. n ≡ number_of r };
 
-    // This answer, and the next where it accepts.
-    pub fn next(self, rest: Answer) -> Answer
-        ensures { result ≡ next self rest }
-    {
-        let a = self;
-        match a {
-            Answer::Accepted => rest,
-            Answer::Refused(_) => a,
-        }
+    fn from(refusal: Refusal) -> u8 {
+        refusal as u8
     }
+}
 
-    pub fn accepted(self) -> bool
-        ensures { result ≡ is_accepted self }
-    {
-        let a = self;
-        match a {
-            Answer::Accepted => true,
-            Answer::Refused(_) => false,
+// A test that must hold, and the refusal where it does not.
+pub fn need(holds: bool, refusal: Refusal) -> Result<(), Refusal>
+    ensures { result ≡ need holds refusal (Ok tt) }
+{
+    if holds {
+        return Ok(());
+    }
+    Err(refusal)
+}
+
+// Any answer as a host sees it: accepted, or the refusal's number; 0 where it is accepted.
+#[repr(C)]
+#[derive(Clone, Copy, PartialEq, Eq)]
+pub struct Verdict {
+    pub accepted: bool,
+    pub refusal: u8,
+}
+
+impl<T: Copy> From<Result<T, Refusal>> for Verdict {
+    ghost from_gives = { λ a v. v ≡ verdict_of a };
+
+    fn from(answer: Result<T, Refusal>) -> Verdict {
+        match answer {
+            Ok(_) => Verdict {
+                accepted: true,
+                refusal: 0,
+            },
+            Err(refusal) => Verdict {
+                accepted: false,
+                refusal: u8::from(refusal),
+            },
         }
     }
 }
