@@ -1,5 +1,5 @@
 -- Texts put into a buffer one behind another, from a place on. Assumes nothing.
-use mathlib.Core.Path.{◌≡◌, sym, ◌∙◌}
+use mathlib.Core.Path.{◌≡◌, refl, sym, ◌∙◌}
 use mathlib.Core.List.{List, [], ◌++◌, append_assoc, append-nil}
 use Prim.Native.Nat.{ℕ, ◌+◌, ◌-◌, ◌≤◌, ◌<◌}
 use native.Mathlib.Omega.{arith}
@@ -7,30 +7,42 @@ use lib.ListN.{take-append-drop, length, take, drop, length-append, drop_of_leng
 use lib.Seq.{drop-drop, take_at, drop_at, take_all, length-take-le, drop-nil}
 use lib.Dec.{leb}
 use borrow.Author.Tests.{leb-true, leb-false}
-use borrow.Rule.Slice.PartMut.{mid_of, put_mid}
+use borrow.Rule.Slice.PartMut.{mid_of, put_mid, same_len_mid}
+use borrow.Rule.Slice.Mut.{set_vals}
 use Rattle.text.specs.Decimal.{starting_with}
 use Rattle.text.specs.Written.{Written}
 use Rattle.text.proofs.Behind.{part-is, part-put}
 use Rattle.text.proofs.Digits.{cases}
+use Rattle.place.specs.declared.Page.{Page}
 use Rattle.place.specs.Place.{behind, Placed}
 
--- a text put into the part of the buffer from the place on, `&mut out[at..]`
-pub in-part : {at m n : ℕ} {text d part : List ℕ} → Written text m (mid_of at (length d - at) d) n part
-    → Placed at text m d (at + n) (put_mid at (length d - at) d part)
+-- a text put into the part of the buffer behind what stands on the page, `&mut self.buffer[self.used..]`
+pub in-part : {m n : ℕ} {text part : List ℕ} {p q : Page} → Written text m (mid_of p.used (length p.buffer.now - p.used) p.buffer.now) n part
+    → length part ≡ length (mid_of p.used (length p.buffer.now - p.used) p.buffer.now)
+    → q ≡ record { buffer = set_vals (put_mid p.used (length p.buffer.now - p.used) p.buffer.now part) p.buffer; used = p.used + n }
+    → Placed text m p q
 unfolding behind
-in-part {at} {d = d} {part = part} w = record {
-  place = rw w.count;
+in-part {part = part} {p = p} w l e = rw e (record {
+  same_reference = refl;
+  same_room = rw same_len_mid refl;
+  used = rw w.count;
   few = omega arith;
-  buffer = part-put at d part ∙ rw (w.buffer, part-is);
+  buffer = part-put p.used p.buffer.now part ∙ rw (w.buffer, part-is);
+})
+
+pub nothing : (p : Page) → Placed [] 0 p p
+unfolding starting_with behind
+nothing p = record {
+  same_reference = refl;
+  same_room = refl;
+  used = omega arith;
+  few = omega arith;
+  buffer = sym (take-append-drop p.used p.buffer.now);
 }
 
-pub nothing : (at : ℕ) (d : List ℕ) → Placed at [] 0 d at d
-unfolding starting_with behind
-nothing at d = record { place = omega arith; few = omega arith; buffer = sym (take-append-drop at d) }
-
 -- the bound may be larger, and the text another that is the same
-pub within : {at m n r : ℕ} {t a d out : List ℕ} → t ≡ a → m ≤ n → Placed at a m d r out → Placed at t n d r out
-within e h p = rw e (record { place = p.place; few = omega arith; buffer = p.buffer })
+pub within : {t a : List ℕ} {m n : ℕ} {p q : Page} → t ≡ a → m ≤ n → Placed a m p q → Placed t n p q
+within e h w = rw e (record { same_reference = w.same_reference; same_room = w.same_room; used = w.used; few = omega arith; buffer = w.buffer })
 
 -- the buffer before the place behind a text, and from there on
 module _ (at : ℕ) (a d : List ℕ) (h : at ≤ length d) where
@@ -64,14 +76,17 @@ joined at a b d =
     rw (past at a d (omega arith), past (at + length a) b (d ++ a) k, past at (a ++ b) d (omega arith), append_assoc))
 
 -- a text behind a text
-pub then : {at m n k r : ℕ} {a b d o p : List ℕ} → Placed at a m d n o → Placed n b k o r p → Placed at (a ++ b) (m + k) d r p
-then {at} {a = a} {b} {d} f g = record {
-  place = rw (g.place, f.place, length-append) (omega arith);
+pub then : {a b : List ℕ} {m n : ℕ} {p q r : Page} → Placed a m p q → Placed b n q r → Placed (a ++ b) (m + n) p r
+then {a} {b} {p = p} f g = record {
+  same_reference = cc;
+  same_room = cc;
+  used = rw (g.used, f.used, length-append) (omega arith);
   few = omega arith;
-  buffer = rw (g.buffer, f.place, f.buffer) (joined at a b d);
+  buffer = rw (g.buffer, f.used, f.buffer) (joined p.used a b p.buffer.now);
 }
 
--- from place 0 on: at the start
-pub first : {m n r : ℕ} {t a d out : List ℕ} → t ≡ a → m ≤ n → Placed 0 a m d r out → Written t n d r out
+-- on a page that was blank and is given up: at the start of the buffer
+pub first : {t a d out : List ℕ} {m n r : ℕ} {p q : Page} → p.used ≡ 0 → p.buffer.now ≡ d → r ≡ q.used → out ≡ q.buffer.now
+    → t ≡ a → m ≤ n → Placed a m p q → Written t n d r out
 unfolding behind
-first e h p = rw e (record { count = omega arith; few = omega arith; buffer = p.buffer })
+first z w u k e h g = rw (e, ← w, u, k) (record { count = omega arith; few = omega arith; buffer = rw z at g.buffer })

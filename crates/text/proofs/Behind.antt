@@ -27,10 +27,6 @@ nothing d = record { count = refl; few = omega arith; buffer = refl }
 pub within : {t a d out : List ℕ} {m n r : ℕ} → t ≡ a → m ≤ n → Written a m d r out → Written t n d r out
 within e h p = rw e (record { count = p.count; few = omega arith; buffer = p.buffer })
 
-pub same-room : {a d out : List ℕ} {m r : ℕ} → Written a m d r out → r ≤ length d → length out ≡ length d
-unfolding starting_with
-same-room p h = rw (p.buffer, length-append, length-drop, ← p.count) (omega arith)
-
 -- a byte stored behind a text
 pub byte-behind : {a d out : List ℕ} {m at : ℕ} (x : ℕ) → Written a m d at out → at < length d
     → Written (a ++ (x ∷ [])) (m + 1) d (at + 1) (set out at x)
@@ -56,14 +52,3 @@ text-behind {a} {b} {d} {out} {part} {at = at} p g =
       buffer = part-put at out part
           ∙ rw (g.buffer, part-is, tk, dp, length-append, ← drop-drop (length b) (length a) d, append_assoc);
     }
-
--- a text that ends with the byte x, of at most n bytes: there is room for x, and it completes the text
-pub room-behind : (n : ℕ) (s : List ℕ) (x : ℕ) {t : List ℕ} {at : ℕ} → t ≡ s ++ (x ∷ []) → length t ≤ n → at ≡ length s → at < n
-room-behind n s x e most q = let l = ap length e ∙ length-append s (x ∷ []) in omega arith
-
-pub completed : (n x : ℕ) {s d t out : List ℕ} {m at : ℕ} → t ≡ s ++ (x ∷ []) → length t ≤ n → n ≤ length d → Written s m d at out
-    → Written t n d (at + 1) (set out at x)
-completed n x {s} {d} e most h p =
-    let r = room-behind n s x e most p.count in
-    let g = byte-behind x p (omega arith) in
-    rw e (record { count = g.count; few = omega arith; buffer = g.buffer })

@@ -2,24 +2,44 @@
 // what stands behind them in the buffer stays.
 #![tactic(auto)]
 
-ghost use Rattle.std.specs.Prelude.{◌≡◌, [], ◌∷◌, ◌++◌, ◌*◌, ◌≤◌, ◌<◌, length};
-ghost use Rattle.text.specs.Decimal.{decimal, signed, spaced};
-ghost use Rattle.text.specs.Hex.{glyph, hexadecimal};
+ghost use Rattle.std.specs.Prelude.{◌≡◌, [], ◌∷◌, ◌++◌, ◌*◌, ◌^◌, ◌≤◌, ◌<◌, length};
+ghost use Rattle.text.specs.Decimal.{glyph, digits_of, decimal, signed, spaced};
+ghost use Rattle.text.specs.Hex.{hexadecimal};
 ghost use Rattle.text.specs.Written.{Written};
 
-// A number in plain decimal: the digits of a tenth of it, and behind them the last one.
-// At most twenty calls deep.
+// A digit below sixteen, capital from ten on.
+fn glyph_of(d: u64) -> u8
+    requires { d < 16 }
+    ensures { result ≡ glyph d }
+{
+    if d < 10 {
+        b'0' + d as u8
+    } else {
+        b'A' - 10 + d as u8
+    }
+}
+
+// A number in a base, of at most `most` digits: the digits of its quotient, and behind them the last one.
+fn put_digits(base: u64, most: usize, x: u64, out: &mut [u8]) -> usize
+    requires { (2 ≤ base) × (base ≤ 16) × (1 ≤ most) × (x < base ^ most) × (most ≤ length out.old) }
+    ensures { Written (digits_of base most x) most out.old result out.new }
+{
+    if x < base {
+        out[0] = glyph_of(x);
+        return 1;
+    }
+    let n = put_digits(base, most - 1, x / base, out);
+    out[n] = glyph_of(x % base);
+    n + 1
+}
+
+// A number in plain decimal. At most twenty calls deep.
+#[tactic(auto, unfolding(crate::specs::Decimal::decimal))]
 pub fn put_decimal(x: u64, out: &mut [u8]) -> usize
     requires { 20 ≤ length out.old }
     ensures { Written (decimal x) 20 out.old result out.new }
 {
-    if x < 10 {
-        out[0] = (48 + x) as u8;
-        return 1;
-    }
-    let n = put_decimal(x / 10, out);
-    out[n] = (48 + x % 10) as u8;
-    n + 1
+    put_digits(10, 20, x, out)
 }
 
 // The same with a minus sign before it where it is negative.
@@ -28,50 +48,29 @@ pub fn put_signed(negative: bool, size: u64, out: &mut [u8]) -> usize
     ensures { Written (signed negative size) 21 out.old result out.new }
 {
     if negative {
-        out[0] = 45;
-        let n = put_decimal(size, &mut out[1..]);
-        return 1 + n;
+        out[0] = b'-';
+        return 1 + put_decimal(size, &mut out[1..]);
     }
     put_decimal(size, out)
 }
 
-// A digit below sixteen, capital from ten on.
-fn glyph_of(d: u32) -> u8
-    requires { d < 16 }
-    ensures { result ≡ glyph d }
-{
-    if d < 10 {
-        return (48 + d) as u8;
-    }
-    (55 + d) as u8
-}
-
-// A number in capital hexadecimal, in the same way. At most eight calls deep.
+// A number in capital hexadecimal. At most eight calls deep.
+#[tactic(auto, unfolding(crate::specs::Hex::hexadecimal))]
 pub fn put_hex(x: u32, out: &mut [u8]) -> usize
     requires { 8 ≤ length out.old }
     ensures { Written (hexadecimal x) 8 out.old result out.new }
 {
-    if x < 16 {
-        out[0] = glyph_of(x);
-        return 1;
-    }
-    let n = put_hex(x / 16, out);
-    out[n] = glyph_of(x % 16);
-    n + 1
+    put_digits(16, 8, u64::from(x), out)
 }
 
 // The bytes of a word.
+#[tactic(auto, unfolding(crate::specs::Decimal::starting_with))]
 pub fn put_bytes(word: &[u8], out: &mut [u8]) -> usize
     requires { length word.now ≤ length out.old }
     ensures { Written word.now (length word.now) out.old result out.new }
 {
-    let n = word.len();
-    let mut i = 0;
-    while i < n {
-        out[i] = word[i];
-        i += 1;
-    }
-    n
+    out[..word.len()].copy_from_slice(word);
+    word.len()
 }
 
 // A number and one byte behind it, a space or a newline.
@@ -91,12 +90,8 @@ pub fn put_numbers(v: &[u64], out: &mut [u8]) -> usize
 {
     let last = v.len() - 1;
     let mut at = 0;
-    let mut k = 0;
-    while k < last {
-        let n = put_item(v[k], 32, &mut out[at..]);
-        at += n;
-        k += 1;
+    for x in &v[..last] {
+        at += put_item(*x, b' ', &mut out[at..]);
     }
-    let n = put_item(v[last], 10, &mut out[at..]);
-    at + n
+    at + put_item(v[last], b'\n', &mut out[at..])
 }

@@ -1,31 +1,20 @@
 -- Decimal numbers, read from words.
-use Rattle.std.specs.Prelude.{Bool, true, false, ◌&&◌, List, [], ◌∷◌, ℕ, zero, suc, ◌+◌, ◌-◌, ◌*◌, min, leb}
+use Rattle.std.specs.Prelude.{Bool, ◌&&◌, not, List, ℕ, ◌+◌, ◌-◌, ◌*◌, min, eqb, length}
+use Rattle.std.specs.List.{fold, list_all, range_with_len}
+use Rattle.std.specs.Char.{is_ascii_digit}
 use Rattle.words.specs.Words.{word_at}
-
-unfoldable pub is_digit : ℕ → Bool
-is_digit x = leb 48 x && leb x 57
-
-unfoldable pub all_digits : List ℕ → Bool
-all_digits [] = true
-all_digits (x ∷ l) = is_digit x && all_digits l
 
 -- a decimal number is one digit or more
 unfoldable pub is_number : List ℕ → Bool
-is_number [] = false
-is_number (x ∷ l) = all_digits (x ∷ l)
+is_number w = not (eqb (length w) 0) && list_all is_ascii_digit w
 
 -- whether words 1 to n are decimal numbers
 unfoldable pub are_numbers : List ℕ → ℕ → Bool
-are_numbers s zero = true
-are_numbers s (suc n) = is_number (word_at s (suc n)) && are_numbers s n
+are_numbers s n = list_all (λ k. is_number (word_at s k)) (range_with_len 1 n)
 
--- the value of digits behind those that make v
-unfoldable pub value_after : ℕ → List ℕ → ℕ
-value_after v [] = v
-value_after v (x ∷ l) = value_after (v * 10 + (x - 48)) l
-
+-- the number that digits make, of which each is worth ten times the next
 unfoldable pub value_of : List ℕ → ℕ
-value_of w = value_after 0 w
+value_of w = fold (λ v x. v * 10 + (x - 48)) 0 w
 
 -- A number above the greatest that its argument holds, of 64 or of 32 bits, is taken as that greatest.
 -- Document 01 refuses both by the same number: date and second 8, slot 10, pulses 13, serial 15, amount 20, command 21,

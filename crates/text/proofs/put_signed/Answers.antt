@@ -8,8 +8,8 @@ pub returns-then-negative : goal.returns-then-negative
 unfolding signed
 returns-then-negative c =
     let sign = byte-behind 45 (nothing c.args.out.now) (omega arith) in
-    rw c.if-negative.true (text-behind sign c.put_decimal-n.ensures)
+    rw c.if-negative.true (text-behind sign c.put_decimal.ensures)
 
 pub returns : goal.returns
 unfolding signed
-returns c = within (rw c.if-negative.false) (omega arith) c.put_decimal.ensures
+returns c = within (rw c.if-negative.false) (omega arith) c.put_decimal-2.ensures

@@ -1,20 +1,22 @@
--- The last word that is no number decides; of no words all are numbers.
-use Rattle.std.proofs.Common.{◌≡◌, ap, sym, ◌∙◌, arith}
-use Rattle.words.specs.Numbers.{is_number}
-use Rattle.words.proofs.Digits.{number_at, no-numbers}
+-- The words from 1 on are tried in order.
+use Rattle.std.proofs.Common.{rules, ℕ, Bool, ◌≡◌, ◌+◌, ◌&&◌, refl, ap, ◌∙◌, arith}
+use borrow.Author.Tests.{tests}
+use Prim.Native.Nat.{zero, suc}
+use Rattle.std.specs.List.{list_all, range_with_len}
+use Rattle.std.proofs.lemmas.Iterator.{YieldsList-from_range}
+use Rattle.std.proofs.lemmas.Iterator.Search.{all_from_yields_List}
+use Rattle.words.specs.Words.{word_at}
+use Rattle.words.specs.Numbers.{is_number, are_numbers}
 use Rattle.words.proofs.are_numbers.Goals as goal
 
-pub returns-then-not-is_number : goal.returns-then-not-is_number
-returns-then-not-is_number c =
-    let other = ap is_number (sym c.word.ensures) ∙ sym c.is_number.ensures ∙ c.if-not-is_number.true in
-    sym (rw other at (number_at c.args.s.now c.loop-k.k (omega arith))) ∙ c.loop-k.invariant
-
-pub loop-k-preserved : goal.loop-k-preserved
-loop-k-preserved c =
-    let number = ap is_number (sym c.word.ensures) ∙ sym c.is_number.ensures ∙ c.if-not-is_number.false in
-    sym (rw number at (number_at c.args.s.now c.loop-k.k (omega arith))) ∙ c.loop-k.invariant
+from-next : (p : ℕ → Bool) (a n : ℕ) → list_all (λ k. p (k + 1)) (range_with_len a n) ≡ list_all p (range_with_len (a + 1) n)
+from-next p a zero = refl
+from-next p a (suc n) = ap (λ (b : Bool). p (a + 1) && b) (from-next p (a + 1) n)
 
 pub returns : goal.returns
+unfolding are_numbers
 returns c =
-    let none : c.loop-k.k ≡ 0 = omega arith in
-    sym (no-numbers c.args.s.now) ∙ rw none at c.loop-k.invariant
+    let s = c.args.s.now in
+    let n = c.args.n in
+    all_from_yields_List (λ k. is_number (word_at s (k + 1))) _ _ c.all.result c.all.ensures.ran (YieldsList-from_range 0 n n refl (omega arith)) (λ x b q k. search (rules, tests))
+    ∙ from-next (λ k. is_number (word_at s k)) 0 n

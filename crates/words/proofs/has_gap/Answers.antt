@@ -1,34 +1,33 @@
 -- A space behind a space is a gap; any other byte leaves the rest to be looked through.
-use Rattle.std.proofs.Common.{◌≡◌, length, get_or, eqb, refl, sym, ◌∙◌, arith}
-use borrow.Author.Tests.{eq-eqb, ne_eqb}
-use Rattle.words.specs.Words.{has_gap}
-use Rattle.words.proofs.Texts.{gap_here, gap-later, first_off, second-off, no_gap}
+use Rattle.std.proofs.Common.{◌≡◌, ℕ, List, Bool, ◌<◌, ◌+◌, ◌&&◌, ◌||◌, length, get_or, drop, eqb, refl, arith, add-one, drop-cons}
+use Rattle.std.proofs.lemmas.Grind.{common_steps}
+use lib.Seq.{drop-length}
+use Rattle.words.specs.Words.{gap_after, has_gap}
 use Rattle.words.proofs.has_gap.Goals as goal
 use Rattle.words.proofs.has_gap.Goals.{else-space-via-then-space+else-next, else-space-via-else-space}
 
-pub loop-i-init : goal.loop-i-init
+here : (t : Bool) (s : List ℕ) (i : ℕ) → i < length s → gap_after t (drop i s) ≡ ((t && eqb (get_or s i 0) 32) || gap_after (eqb (get_or s i 0) 32) (drop (i + 1) s))
+unfolding gap_after
+here t s i h = rw (add-one, drop-cons s i 0 h)
+
+pub loop-x-init : goal.loop-x-init
 unfolding has_gap
-loop-i-init c = record { within = omega arith; same = refl }
+loop-x-init c = refl
 
 pub returns-then-next : goal.returns-then-next
-returns-then-next c =
-    sym (gap_here c.loop-i.space c.args.s.now c.loop-i.i (omega arith) c.if-space.true (eq-eqb _ _ c.if-next.true)) ∙ c.loop-i.invariant.same
+returns-then-next c = let e = here c.loop-x.space c.args.s.now c.loop-x.x-index (omega arith) in grind (arith, common_steps, e, c.loop-x.invariant)
 
-pub loop-i-preserved : goal.loop-i-preserved
-loop-i-preserved c =
-    let s = c.args.s.now in
-    let later = gap-later c.loop-i.space s c.loop-i.i (omega arith) in
-    let next = eqb (get_or s c.loop-i.i 0) 32 in
-    record {
-      within = omega arith;
-      same = elim c.else-space.branch [
-        | else-space-via-then-space+else-next w ↦ sym (later (second-off c.loop-i.space next (ne_eqb _ _ w.if-next.false))) ∙ c.loop-i.invariant.same
-        | else-space-via-else-space w ↦ sym (later (first_off c.loop-i.space next w.if-space.false)) ∙ c.loop-i.invariant.same
-      ];
-    }
+pub loop-x-preserved : goal.loop-x-preserved
+loop-x-preserved c =
+    let e = here c.loop-x.space c.args.s.now c.loop-x.x-index (omega arith) in
+    elim c.else-space.branch [
+      | else-space-via-then-space+else-next w ↦ grind (arith, common_steps, e, c.loop-x.invariant)
+      | else-space-via-else-space w ↦ grind (arith, common_steps, e, c.loop-x.invariant)
+    ]
 
 pub returns : goal.returns
+unfolding gap_after
 returns c =
     let s = c.args.s.now in
-    let end : c.loop-i.i ≡ length s = omega arith in
-    sym (no_gap c.loop-i.space s) ∙ rw end at c.loop-i.invariant.same
+    let end : c.loop-x.x-index ≡ length s = omega arith in
+    rw (end, drop-length) at c.loop-x.invariant

@@ -1,29 +1,15 @@
--- The first byte that is no digit decides; at the end all are digits.
-use Rattle.std.proofs.Common.{◌≡◌, length, sym, ◌∙◌, arith}
-use Rattle.words.proofs.Digits.{number-none, number-some, digit_at, digits-end}
+-- There is a digit, and all are digits.
+use Rattle.std.proofs.Common.{rules, ◌≡◌, false, eqb, length}
+use borrow.Author.Tests.{tests}
+use Rattle.std.specs.Char.{is_ascii_digit}
+use Rattle.std.proofs.lemmas.Iterator.{YieldsList-from_slice}
+use Rattle.std.proofs.lemmas.Iterator.Search.{all_from_yields_List}
+use Rattle.words.specs.Numbers.{is_number}
 use Rattle.words.proofs.is_number.Goals as goal
 
-pub returns-then-w-eq0 : goal.returns-then-w-eq0
-returns-then-w-eq0 c = number-none c.args.w.now c.if-w-eq0.true
-
-pub loop-i-init : goal.loop-i-init
-loop-i-init c = record { within = omega arith; same = sym (number-some c.args.w.now (omega arith)) }
-
-pub returns-then-not-is_digit : goal.returns-then-not-is_digit
-returns-then-not-is_digit c =
-    let other = sym c.is_digit.ensures ∙ c.if-not-is_digit.true in
-    sym (rw other at (digit_at c.args.w.now c.loop-i.i (omega arith))) ∙ c.loop-i.invariant.same
-
-pub loop-i-preserved : goal.loop-i-preserved
-loop-i-preserved c =
-    let digit = sym c.is_digit.ensures ∙ c.if-not-is_digit.false in
-    record {
-      within = omega arith;
-      same = sym (rw digit at (digit_at c.args.w.now c.loop-i.i (omega arith))) ∙ c.loop-i.invariant.same;
-    }
-
-pub returns : goal.returns
-returns c =
-    let w = c.args.w.now in
-    let end : c.loop-i.i ≡ length w = omega arith in
-    sym (digits-end w) ∙ rw end at c.loop-i.invariant.same
+pub returns-then-not-is_empty : goal.returns-then-not-is_empty
+unfolding is_number
+returns-then-not-is_empty c =
+    let some : eqb (length c.args.w.now) 0 ≡ false = search (rules, tests) in
+    rw some
+    (all_from_yields_List is_ascii_digit _ _ _ c.all.ensures.ran (YieldsList-from_slice c.args.w.now cc) (λ x b q k. search (rules, tests)))

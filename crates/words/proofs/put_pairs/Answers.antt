@@ -1,18 +1,13 @@
 -- The next pair's byte is stored behind those that stand already.
 use Rattle.std.proofs.Common.{◌≡◌, ◌/◌, length, refl, arith}
 use lib.ListN.{length-set}
+use Rattle.std.proofs.lemmas.List.FromFn.{map-range_with_len_more}
 use Rattle.text.proofs.Behind.{nothing, byte-behind}
 use Rattle.words.specs.Hex.{pair_at, bytes_of}
-use Rattle.words.proofs.Digits.{pairs-none, pairs-more}
 use Rattle.words.proofs.put_pairs.Goals as goal
 
 pub loop-i-init : goal.loop-i-init
-loop-i-init c = record {
-  within = omega arith;
-  half = refl;
-  same = refl;
-  put = rw pairs-none (nothing c.args.out.now);
-}
+loop-i-init c = record { half = refl; same = refl; put = nothing c.args.out.now }
 
 pub loop-i-preserved : goal.loop-i-preserved
 loop-i-preserved c =
@@ -20,10 +15,9 @@ loop-i-preserved c =
     let i = c.loop-i.i in
     let g = byte-behind (pair_at w i) c.loop-i.invariant.put (omega arith) in
     record {
-      within = omega arith;
       half = refl;
       same = simp length-set c.loop-i.invariant.same;
-      put = rw (pairs-more w i, c.pair_at.ensures) g;
+      put = rw (map-range_with_len_more (pair_at w) 0 i i (omega arith), c.pair_at.ensures) g;
     }
 
 pub returns : goal.returns

@@ -1,22 +1,24 @@
--- One digit more; what was cut at the greatest number stays cut there.
-use Rattle.std.proofs.Common.{ℕ, ◌+◌, ◌-◌, ◌*◌, min, take, get_or, ap, sym, ◌∙◌, arith}
+-- What is cut at the greatest number stays cut there.
+use Rattle.std.proofs.Common.{List, ℕ, ◌≡◌, ◌+◌, ◌-◌, ◌*◌, min, rules, refl, arith, ◌∙◌}
+use borrow.Author.Tests.{tests}
+use mathlib.Core.List.{[], ◌∷◌}
+use Rattle.std.specs.List.{fold}
+use Rattle.std.proofs.lemmas.Iterator.{YieldsList-from_slice}
+use Rattle.std.proofs.lemmas.Iterator.Consumers.{fold_from_yields_List}
 use Rattle.words.specs.Numbers.{value_of}
-use Rattle.words.proofs.Digits.{value_none, value-more, cut-more}
 use Rattle.words.proofs.value.Goals as goal
 
-pub loop-i-init : goal.loop-i-init
-loop-i-init c = record { within = omega arith; cut = rw value_none }
+module _ (top : ℕ) where
+  cut : (w : List ℕ) (v : ℕ) → fold (λ v x. min (min (v * 10) top + (x - 48)) top) (min top v) w ≡ min top (fold (λ v x. v * 10 + (x - 48)) v w)
+  cut [] v = refl
+  cut (x ∷ w) v =
+      let e : min (min (min top v * 10) top + (x - 48)) top ≡ min top (v * 10 + (x - 48)) = omega arith in
+      rw e (cut w (v * 10 + (x - 48)))
 
-pub loop-i-preserved : goal.loop-i-preserved
-loop-i-preserved c =
+pub returns : goal.returns
+unfolding value_of
+returns c =
     let w = c.args.w.now in
-    let i = c.loop-i.i in
-    let most : ℕ = 18446744073709551615 in
-    let more = value-more w i (omega arith) in
-    record {
-      within = omega arith;
-      cut = c.grown-v.ensures
-          ∙ ap (λ (v : ℕ). min most (v * 10 + (get_or w i 0 - 48))) c.loop-i.invariant.cut
-          ∙ cut-more most (value_of (take i w)) (get_or w i 0 - 48)
-          ∙ ap (min most) (sym more);
-    }
+    let e : c.fold.result ≡ fold (λ v x. min (min (v * 10) 18446744073709551615 + (x - 48)) 18446744073709551615) 0 w
+    = fold_from_yields_List _ (λ v x. min (min (v * 10) 18446744073709551615 + (x - 48)) 18446744073709551615) 0 c.fold.result c.fold.ensures.ran (YieldsList-from_slice w cc) (λ a x b q k. search (rules, tests)) in
+    e ∙ cut 18446744073709551615 w 0

@@ -1,5 +1,0 @@
--- A sixteenth of a number is less than it.
-use Rattle.text.proofs.+put_hex.Given as goal
-
-abbrev pub decreases-put_hex : goal.decreases-put_hex
-decreases-put_hex l = l.x
