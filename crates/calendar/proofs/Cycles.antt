@@ -1,22 +1,19 @@
 -- Cycles follow the order of the dates. How days are numbered is seen only through the laws of `Days`. Assumes nothing.
 use mathlib.Core.Path.{◌≡◌}
-use mathlib.Core.Bool.{Bool, true, false, cond}
+use mathlib.Core.Bool.{true, cond}
 use Prim.Native.Nat.{ℕ, zero, suc, ◌+◌, ◌-◌, ◌/◌, ◌≤◌, ◌<◌}
 use native.Mathlib.Nat.{le_trans, le-div_iff_mul-le, div-mul-le_self, div-zero}
 use native.Mathlib.Numerals.{add-one}
 use native.Mathlib.Omega.{arith}
-use lib.Dec.{leb, ltb, eqb}
+use lib.Dec.{leb, ltb}
 use borrow.Author.Tests.{leb-true, ltb-true, ltb-false, le-leb, lt-ltb, le-ltb}
+use Rattle.calendar.specs.declared.Cycle.{Cycle}
+use Rattle.calendar.specs.declared.Cycle.TheVariants.{Month, Quarter, Year}
 use Rattle.calendar.specs.Date.{year_of, month_of, is_date}
 use Rattle.calendar.specs.DayNumber.{day_number}
 use Rattle.calendar.specs.Cycle.{month_start, quarter_month, quarter_start, year_start, cycle_start, run_of}
 use Rattle.answer.proofs.Tests.{cases, either}
 use Rattle.calendar.proofs.Days.{number-keeps}
-
--- one test chooses between the smaller numbers as between the larger ones
-alike : (b : Bool) {x y u v : ℕ} → x ≤ u → y ≤ v → cond b x y ≤ cond b u v
-alike true p q = p
-alike false p q = q
 
 -- a later date's month does not start before
 pub month-rises : (a b : ℕ) → a ≤ b → month_start a ≤ month_start b
@@ -60,11 +57,12 @@ unfolding year_start
 year-rises a b h = omega arith
 
 -- a later date's cycle does not start before
-pub start-rises : (w a b : ℕ) → a ≤ b → cycle_start w a ≤ cycle_start w b
+pub start-rises : (c : Cycle) (a b : ℕ) → a ≤ b → cycle_start c a ≤ cycle_start c b
 unfolding cycle_start
-start-rises w a b h =
-    alike (eqb w 1) (month-rises a b h)
-    (alike (eqb w 2) (quarter-rises a b h) (alike (eqb w 3) (year-rises a b h) (omega arith)))
+start-rises Month a b h = month-rises a b h
+start-rises Quarter a b h = quarter-rises a b h
+start-rises Year a b h = year-rises a b h
+start-rises _ a b h = omega arith
 
 -- the dates before the first cycle day are one cycle
 pub run-before : (first n d : ℕ) → d < first → run_of first n d ≡ 0

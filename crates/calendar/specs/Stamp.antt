@@ -1,9 +1,10 @@
 -- Document 01, "Dates": "A stamp is a date and a second, 0 to 86,399. Second 0 belongs to the day that it begins."
-use Rattle.std.specs.Prelude.{Bool, cond, ◌&&◌, ◌||◌, ℕ, leb, ltb, eqb}
+use Rattle.std.specs.Prelude.{Bool, ◌&&◌, ◌||◌, ℕ, leb, ltb, eqb, Result, Ok}
+use Rattle.answer.specs.declared.Refusal.{Refusal}
+use Rattle.answer.specs.declared.Refusal.TheVariants.{Stamp as BadStamp}
+use Rattle.answer.specs.Answer.{need}
 use Rattle.calendar.specs.Date.{is_date}
 use Rattle.calendar.specs.declared.Stamp.{Stamp}
-use Rattle.calendar.specs.declared.Dated.{Dated}
-use Rattle.calendar.specs.declared.Dated.TheVariants.{On, Refused}
 
 -- a date by the test that is given, and a second of the day
 abbrev pub stamp_by : (ℕ → Bool) → Stamp → Bool
@@ -13,8 +14,8 @@ unfoldable pub is_stamp : Stamp → Bool
 is_stamp s = stamp_by is_date s
 
 -- "8, bad date or second"; otherwise the stamp's date
-unfoldable pub dated : Stamp → Dated
-dated s = cond (is_stamp s) (On s.date) (Refused 8)
+unfoldable pub dated : Stamp → Result ℕ Refusal
+dated s = need (is_stamp s) BadStamp (Ok s.date)
 
 -- whether the second stamp's date is later than the first's
 abbrev pub later_date : Stamp → Stamp → Bool

@@ -5,7 +5,9 @@ ghost use Rattle.std.specs.Prelude.{◌≡◌, true, ◌-◌, ◌≤◌, ◌<◌
 ghost use Rattle.calendar.specs.Date.{is_leap, days_in, is_day, is_date};
 ghost use Rattle.calendar.specs.Stamp.{is_stamp, dated, not_before};
 ghost use Rattle.calendar.specs.DayNumber.{days_of_months, days_of_years, day_number};
-ghost use Rattle.calendar.specs.Cycle.{month_start, quarter_month, quarter_start, year_start, cycle_start, run_of};
+ghost use Rattle.calendar.specs.Cycle.{cycle_named, month_start, quarter_month, quarter_start, year_start, cycle_start, run_of};
+
+use answer::{Refusal, need};
 
 // The first and the last date of the calendar.
 const FIRST_DATE: u32 = 20_000_101;
@@ -14,17 +16,37 @@ const LAST_DATE: u32 = 20_991_231;
 
 // A date, YYYYMMDD, and a second of that day.
 #[repr(C)]
-#[derive(Clone, Copy)]
+#[derive(Clone, Copy, PartialEq, Eq, PartialOrd, Ord)]
 pub struct Stamp {
     pub date: u32,
     pub second: u32,
 }
 
-// The date of a stamp, or the refusal's number.
-#[derive(Clone, Copy)]
-pub enum Dated {
-    On(u32),
-    Refused(u8),
+// What the cycle word of a plan says: the whole time in force, a calendar cycle, the time in force in
+// a window of dates, runs of days.
+#[derive(Clone, Copy, PartialEq, Eq)]
+pub enum Cycle {
+    Whole,
+    Month,
+    Quarter,
+    Year,
+    Window,
+    Runs,
+}
+
+impl From<u8> for Cycle {
+    ghost from_gives = { λ w c. c ≡ cycle_named w };
+
+    fn from(word: u8) -> Cycle {
+        match word {
+            1 => Cycle::Month,
+            2 => Cycle::Quarter,
+            3 => Cycle::Year,
+            4 => Cycle::Window,
+            5 => Cycle::Runs,
+            _ => Cycle::Whole,
+        }
+    }
 }
 
 #[tactic(auto, unfolding(crate::specs::Date::is_leap))]
@@ -39,31 +61,24 @@ fn days_in(y: u32, m: u32) -> u32
     ensures { result ≡ days_in y m }
 {
     match m {
-        2 => february(y),
+        2 => if is_leap(y) { 29 } else { 28 },
         4 | 6 | 9 | 11 => 30,
         _ => 31,
     }
-}
-
-#[tactic(auto, unfolding(crate::specs::Date::days_in))]
-fn february(y: u32) -> u32
-    ensures { result ≡ days_in y 2 }
-{
-    if is_leap(y) { 29 } else { 28 }
 }
 
 #[tactic(auto, unfolding(crate::specs::Date::is_day))]
 fn is_day(y: u32, m: u32, d: u32) -> bool
     ensures { result ≡ is_day y m d }
 {
-    1 <= m && (m <= 12 && (1 <= d && d <= days_in(y, m)))
+    (1..=12).contains(&m) && (1..=days_in(y, m)).contains(&d)
 }
 
 #[tactic(auto, unfolding(crate::specs::Date::is_date))]
 pub fn is_date(d: u32) -> bool
     ensures { result ≡ is_date d }
 {
-    FIRST_DATE <= d && (d <= LAST_DATE && is_day(d / 10_000, d / 100 % 100, d % 100))
+    (FIRST_DATE..=LAST_DATE).contains(&d) && is_day(d / 10_000, d / 100 % 100, d % 100)
 }
 
 impl Stamp {
@@ -78,14 +93,11 @@ impl Stamp {
 
     // The date, or refusal 8.
     #[tactic(auto, unfolding(crate::specs::Stamp::dated))]
-    pub fn read(self) -> Dated
+    pub fn read(self) -> Result<u32, Refusal>
         ensures { result ≡ dated self }
     {
-        if self.is_stamp() {
-            Dated::On(self.date)
-        } else {
-            Dated::Refused(8)
-        }
+        need(self.is_stamp(), Refusal::Stamp)?;
+        Ok(self.date)
     }
 
     // Whether `next` is not before this stamp.
@@ -93,10 +105,7 @@ impl Stamp {
     pub fn reaches(self, next: Stamp) -> bool
         ensures { result ≡ not_before self next }
     {
-        if self.date < next.date {
-            return true;
-        }
-        self.date == next.date && self.second <= next.second
+        self <= next
     }
 }
 
@@ -122,6 +131,8 @@ fn years_before(k: u32) -> u32
     365 * k + (k + 3) / 4
 }
 
+// A date stays a number, as in the C layouts of stamps and plans: a type of dates would be made again
+// at each use, under this same fact.
 #[tactic(auto, unfolding(crate::specs::DayNumber::day_number))]
 pub fn day_number(d: u32) -> u32
     requires { is_date d ≡ true }
@@ -163,15 +174,15 @@ pub fn year_start(d: u32) -> u32
     d / 10_000 * 10_000 + 101
 }
 
-// The first date of the calendar cycle of a cycle word, 0 for a word that has none.
+// The first date of the calendar cycle that a date lies in, 0 for a cycle that is none.
 #[tactic(auto, unfolding(crate::specs::Cycle::cycle_start))]
-pub fn cycle_start(word: u8, d: u32) -> u32
-    ensures { result ≡ cycle_start word d }
+pub fn cycle_start(cycle: Cycle, d: u32) -> u32
+    ensures { result ≡ cycle_start cycle d }
 {
-    match word {
-        1 => month_start(d),
-        2 => quarter_start(d),
-        3 => year_start(d),
+    match cycle {
+        Cycle::Month => month_start(d),
+        Cycle::Quarter => quarter_start(d),
+        Cycle::Year => year_start(d),
         _ => 0,
     }
 }

@@ -1,16 +1,18 @@
 -- The days in force are one run of days, and when the runs of two plans meet. Assumes nothing.
-use mathlib.Core.Path.{◌≡◌}
-use mathlib.Core.Bool.{true, false}
+use mathlib.Core.Path.{◌≡◌, refl}
+use mathlib.Core.Bool.{true, false, ◌&&◌}
 use Prim.Native.Nat.{ℕ, ◌≤◌, ◌<◌, min, max}
 use native.Mathlib.Omega.{arith}
-use lib.Dec.{ltb, leb, eqb}
-use borrow.Author.Tests.{ltb-true, ltb-false, leb-true, eqb-true, lt-ltb, le-ltb, le-leb}
+use lib.Dec.{ltb, leb}
+use borrow.Author.Tests.{ltb-true, ltb-false, leb-true, lt-ltb, le-ltb, le-leb}
+use Rattle.calendar.specs.declared.Cycle.{Cycle}
+use Rattle.calendar.specs.declared.Cycle.TheVariants.{Window, Runs}
 use Rattle.calendar.specs.Date.{is_date}
 use Rattle.answer.proofs.Tests.{cases, split}
 use Rattle.plan.specs.declared.Plan.{Plan}
-use Rattle.plan.specs.Plan.{cycle_word}
-use Rattle.plan.specs.Rules.{some_day, is_good}
-use Rattle.plan.specs.Force.{in_period, in_force, first_day, end_day, meet}
+use Rattle.plan.specs.Plan.{cycle}
+use Rattle.plan.specs.Rules.{extra_days, some_day, is_good}
+use Rattle.plan.specs.Force.{in_period, in_window, in_force, first_by, first_day, end_by, end_day, meet}
 use Rattle.plan.specs.Meeting.{Meeting}
 use Rattle.plan.proofs.Good.{start-date, window-dates, period-order, window-order}
 
@@ -21,27 +23,27 @@ within from to d h = let t = split {a = leb from d} {b = ltb d to} h in (leb-tru
 inside : (from to d : ℕ) → from ≤ d → d < to → in_period from to d ≡ true
 inside from to d h k = rw (le-leb from d h, lt-ltb d to k)
 
+by-within : (c : Cycle) (p : Plan) (d : ℕ) → in_period p.start p.end d ≡ true → in_window c p d ≡ true → (first_by c p ≤ d) × (d < end_by c p)
+by-within Window p d h k =
+    let a = within p.start p.end d h in
+    let b = within p.first p.second d k in
+    (omega arith, omega arith)
+by-within _ p d h k = within p.start p.end d h
+
+within-by : (c : Cycle) (p : Plan) (d : ℕ) → first_by c p ≤ d → d < end_by c p → (in_period p.start p.end d && in_window c p d) ≡ true
+within-by Window p d h k = rw (inside p.start p.end d (omega arith) (omega arith)) (inside p.first p.second d (omega arith) (omega arith))
+within-by _ p d h k = rw (inside p.start p.end d h k)
+
 module _ (p : Plan) (d : ℕ) where
   -- a date in force lies in the run of days from the first date in force to the first one after it that is not
   pub force-within : in_force p d ≡ true → (first_day p ≤ d) × (d < end_day p)
   unfolding in_force first_day end_day
-  force-within h =
-      let t = split {a = in_period p.start p.end d} h in
-      let a = within p.start p.end d t.0 in
-      cases (eqb (cycle_word p) 4)
-      (λ e. let b = within p.first p.second d (rw e at t.1) in rw e (omega arith))
-      (λ e. rw e a)
+  force-within h = let t = split {a = in_period p.start p.end d} h in by-within (cycle p) p d t.0 t.1
 
   -- every date of that run is in force
   pub within-force : first_day p ≤ d → d < end_day p → in_force p d ≡ true
   unfolding in_force first_day end_day
-  within-force h k =
-      cases (eqb (cycle_word p) 4)
-      (λ e.
-      let f : max p.start p.first ≤ d = rw e at h in
-      let g : d < min p.end p.second = rw e at k in
-      rw (e, inside p.start p.end d (omega arith) (omega arith), inside p.first p.second d (omega arith) (omega arith)))
-      (λ e. rw (e, inside p.start p.end d (rw e at h) (rw e at k)))
+  within-force h k = within-by (cycle p) p d h k
 
 -- between two dates in force every date is
 pub convex : (p : Plan) (a b c : ℕ) → a ≤ b → b ≤ c → in_force p a ≡ true → in_force p c ≡ true → in_force p b ≡ true
@@ -80,41 +82,39 @@ later-date a b h k =
     (λ e. let m : max a b ≡ b = omega (arith, ltb-true a b e) in rw m k)
     (λ e. let m : max a b ≡ a = omega (arith, ltb-false a b e) in rw m h)
 
--- the first date in force is a date
+-- the first date in force is a date, which comes before the end
+first-by : (c : Cycle) (p : Plan) → is_good p ≡ true → cycle p ≡ c → (is_date (first_by c p) ≡ true) × (first_by c p < end_by c p)
+first-by Window p h e =
+    let w = window-order p h e in
+    (later-date p.start p.first (start-date p h) (window-dates p h e).0, omega (arith, period-order p h))
+first-by _ p h e = (start-date p h, period-order p h)
+
 pub first-day-date : (p : Plan) → is_good p ≡ true → is_date (first_day p) ≡ true
 unfolding first_day
-first-day-date p h =
-    cases (eqb (cycle_word p) 4)
-    (λ e. rw e (later-date p.start p.first (start-date p h) (window-dates p h (eqb-true (cycle_word p) 4 e)).0))
-    (λ e. rw e (start-date p h))
+first-day-date p h = (first-by (cycle p) p h refl).0
 
--- and comes before the end
 first-before-end : (p : Plan) → is_good p ≡ true → first_day p < end_day p
 unfolding first_day end_day
-first-before-end p h =
-    cases (eqb (cycle_word p) 4)
-    (λ e. let w = window-order p h (eqb-true (cycle_word p) 4 e) in rw e (omega (arith, period-order p h)))
-    (λ e. rw e (period-order p h))
+first-before-end p h = (first-by (cycle p) p h refl).1
 
 -- a good plan is in force on it
 pub first-in-force : (p : Plan) → is_good p ≡ true → in_force p (first_day p) ≡ true
 first-in-force p h = within-force p (first_day p) (omega arith) (first-before-end p h)
 
 -- a plan that is in force on a date, and has a day in its cycles, passes the test for it
-pub force-some-day : (p : Plan) (d : ℕ) → in_force p d ≡ true → (cycle_word p ≡ 5 → 1 ≤ p.second) → some_day p ≡ true
+by-days : (c : Cycle) (p : Plan) (d : ℕ) → p.start ≤ d → d < p.end → in_window c p d ≡ true → (c ≡ Runs → 1 ≤ p.second) → extra_days c p ≡ true
+by-days Window p d s e w n =
+    let b = within p.first p.second d w in
+    rw (lt-ltb p.first p.second (omega arith), lt-ltb p.start p.second (omega arith), lt-ltb p.first p.end (omega arith))
+by-days Runs p d s e w n = le-leb 1 p.second (n refl)
+by-days _ p d s e w n = refl
+
+pub force-some-day : (p : Plan) (d : ℕ) → in_force p d ≡ true → (cycle p ≡ Runs → 1 ≤ p.second) → some_day p ≡ true
 unfolding some_day in_force
 force-some-day p d h n =
     let t = split {a = in_period p.start p.end d} h in
     let a = within p.start p.end d t.0 in
-    let s = lt-ltb p.start p.end (omega arith) in
-    cases (eqb (cycle_word p) 4)
-    (λ e.
-    let b = within p.first p.second d (rw e at t.1) in
-    rw (s, e, lt-ltb p.first p.second (omega arith), lt-ltb p.start p.second (omega arith), lt-ltb p.first p.end (omega arith)))
-    (λ e.
-    cases (eqb (cycle_word p) 5)
-    (λ f. rw (s, e, f, le-leb 1 p.second (n (eqb-true (cycle_word p) 5 f))))
-    (λ f. rw (s, e, f)))
+    rw (lt-ltb p.start p.end (omega arith)) (by-days (cycle p) p d a.0 a.1 t.1 n)
 
 -- plans that meet have a meeting: the latest of the date and the first days
 pub meet-says : (p q : Plan) (d : ℕ) → is_good p ≡ true → is_good q ≡ true → is_date d ≡ true → meet p q d ≡ true → Meeting p q d

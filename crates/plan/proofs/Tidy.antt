@@ -3,14 +3,16 @@ use mathlib.Core.Path.{◌≡◌, refl}
 use mathlib.Core.Bool.{Bool, true, false, cond}
 use Prim.Native.Nat.{ℕ, zero, suc, ◌≤◌, ◌<◌}
 use native.Mathlib.Omega.{arith}
-use lib.Dec.{ltb, eqb}
+use lib.Dec.{ltb}
 use lib.ListN.{get_or}
 use borrow.Author.Tests.{lt-ltb}
 use Rattle.answer.proofs.Tests.{cases}
 use Rattle.units.specs.Volume.{volume, price}
 use Rattle.plan.specs.declared.Plan.{Plan}
-use Rattle.plan.specs.Plan.{most_steps, six, width_at, price_at, cycle_word, has_extra, kept_width, kept_price, tidy}
-use Rattle.plan.specs.Rules.{pair_good, has_price, steps_good, word_good, numbers_good, dates_good, some_day, priced, verdict, is_good}
+use Rattle.calendar.specs.declared.Cycle.{Cycle}
+use Rattle.calendar.specs.declared.Cycle.TheVariants.{Window, Runs}
+use Rattle.plan.specs.Plan.{most_steps, six, width_at, price_at, cycle_word, cycle, two_more, has_extra, kept, tidy}
+use Rattle.plan.specs.Rules.{pair_good, has_price, extra_dates, extra_days, steps_good, word_good, numbers_good, dates_good, some_day, priced, verdict, is_good}
 use Rattle.plan.proofs.Every.{every-same}
 use Rattle.plan.proofs.Good.{steps-most}
 
@@ -38,12 +40,25 @@ module _ (p : Plan) (m : p.steps ≤ most_steps) (i : ℕ) (h : i < p.steps) whe
   -- a width that is read
   tidy-width : width_at (tidy p) i ≡ width_at p i
   unfolding tidy
-  tidy-width = rw (of-six (kept_width p) (volume 0) i (omega arith), lt-ltb i p.steps h)
+  tidy-width = rw (of-six (kept p p.widths (volume 0)) (volume 0) i (omega arith), lt-ltb i p.steps h)
 
   -- a price that is read
   tidy-price : price_at (tidy p) i ≡ price_at p i
   unfolding tidy
-  tidy-price = rw (of-six (kept_price p) (price 0) i (omega arith), lt-ltb i p.steps h)
+  tidy-price = rw (of-six (kept p p.prices (price 0)) (price 0) i (omega arith), lt-ltb i p.steps h)
+
+-- what the cycle adds to the tests is asked of fields that are read
+dates-kept : (c : Cycle) (p q : Plan)
+    → q.first ≡ cond (two_more c) p.first 0 → q.second ≡ cond (two_more c) p.second 0 → extra_dates c q ≡ extra_dates c p
+dates-kept Window p q e f = rw (e, f)
+dates-kept Runs p q e f = rw e
+dates-kept _ p q e f = refl
+
+days-kept : (c : Cycle) (p q : Plan) → q.start ≡ p.start → q.end ≡ p.end
+    → q.first ≡ cond (two_more c) p.first 0 → q.second ≡ cond (two_more c) p.second 0 → extra_days c q ≡ extra_days c p
+days-kept Window p q s t e f = rw (s, t, e, f)
+days-kept Runs p q s t e f = rw f
+days-kept _ p q s t e f = refl
 
 -- the tests of the refusals, one by one
 module _ (p : Plan) where
@@ -66,15 +81,11 @@ module _ (p : Plan) where
 
   dates-same : dates_good (tidy p) ≡ dates_good p
   unfolding dates_good has_extra tidy
-  dates-same =
-      rw (tidy-word p)
-      (cases (eqb (cycle_word p) 4) (λ e. rw e) (λ e. cases (eqb (cycle_word p) 5) (λ f. rw (e, f)) (λ f. rw (e, f))))
+  dates-same = rw (tidy-word p, dates-kept (cycle p) p (tidy p) refl refl)
 
   days-same : some_day (tidy p) ≡ some_day p
   unfolding some_day has_extra tidy
-  days-same =
-      rw (tidy-word p)
-      (cases (eqb (cycle_word p) 4) (λ e. rw e) (λ e. cases (eqb (cycle_word p) 5) (λ f. rw (e, f)) (λ f. rw (e, f))))
+  days-same = rw (tidy-word p, days-kept (cycle p) p (tidy p) refl refl refl refl)
 
   prices-same : p.steps ≤ most_steps → priced (tidy p) ≡ priced p
   unfolding priced tidy

@@ -1,8 +1,9 @@
 -- Document 01, "Plan record (Table C.1)": the fields of a plan, and which of them are read.
-use Rattle.std.specs.Prelude.{Bool, cond, ◌||◌, List, [], ◌∷◌, ℕ, ltb, eqb, get_or, replicate}
-use Rattle.units.specs.declared.Hundredths.{Hundredths}
-use Rattle.units.specs.declared.TenThousandths.{TenThousandths}
+use Rattle.std.specs.Prelude.{Bool, true, false, cond, List, [], ◌∷◌, ℕ, ltb, get_or, replicate}
 use Rattle.units.specs.Volume.{volume, price}
+use Rattle.calendar.specs.declared.Cycle.{Cycle}
+use Rattle.calendar.specs.declared.Cycle.TheVariants.{Window, Runs}
+use Rattle.calendar.specs.Cycle.{cycle_named}
 use Rattle.plan.specs.declared.Plan.{Plan}
 
 -- "six pairs of volume 4 and price 4"
@@ -23,16 +24,22 @@ price_at p i = (get_or p.prices i (price 0)).0
 unfoldable pub cycle_word : Plan → ℕ
 cycle_word p = cond (ltb p.steps 2) 0 p.word
 
+-- the cycle that it says
+abbrev pub cycle : Plan → Cycle
+cycle p = cycle_named (cycle_word p)
+
 -- "The extra fields are read only for words 04 (window start, window end) and 05 (first cycle day, days in a cycle), n at least 2."
+abbrev pub two_more : Cycle → Bool
+two_more Window = true
+two_more Runs = true
+two_more _ = false
+
 unfoldable pub has_extra : Plan → Bool
-has_extra p = eqb (cycle_word p) 4 || eqb (cycle_word p) 5
+has_extra p = two_more (cycle p)
 
 -- "Pairs beyond n aren't read."
-abbrev pub kept_width : Plan → ℕ → Hundredths
-kept_width p i = volume (cond (ltb i p.steps) (width_at p i) 0)
-
-abbrev pub kept_price : Plan → ℕ → TenThousandths
-kept_price p i = price (cond (ltb i p.steps) (price_at p i) 0)
+abbrev pub kept : {A : Type 0} → Plan → List A → A → ℕ → A
+kept p xs none i = cond (ltb i p.steps) (get_or xs i none) none
 
 -- "A plan is its read fields: two that agree there are the same plan." The same plan with zero in every field that is not read.
 unfoldable pub tidy : Plan → Plan
@@ -43,8 +50,8 @@ tidy p = record {
   word = cycle_word p;
   first = cond (has_extra p) p.first 0;
   second = cond (has_extra p) p.second 0;
-  widths = six (kept_width p);
-  prices = six (kept_price p);
+  widths = six (kept p p.widths (volume 0));
+  prices = six (kept p p.prices (price 0));
 }
 
 -- no plan: all fields zero

@@ -1,17 +1,19 @@
 -- Document 01, "Read a plan" and "Write a plan": refusals 2 to 7. Only fields that are read are looked at, and "each is tested over
 -- all fields before the next". A number above 99,999,999 stands for a field with a digit above 9, so that one test serves both.
-use Rattle.std.specs.Prelude.{Bool, true, cond, ◌&&◌, ◌||◌, ℕ, zero, suc, ltb, leb, eqb}
+use Rattle.std.specs.Prelude.{Bool, true, cond, ◌&&◌, ◌||◌, ℕ, ltb, leb, ⊤, Result, Ok, is_ok}
+use Rattle.std.specs.List.{list_all, range_with_len}
 use Rattle.calendar.specs.Date.{is_date}
+use Rattle.calendar.specs.declared.Cycle.{Cycle}
+use Rattle.calendar.specs.declared.Cycle.TheVariants.{Window, Runs}
 use Rattle.plan.specs.declared.Plan.{Plan}
-use Rattle.answer.specs.declared.Answer.{Answer}
-use Rattle.answer.specs.declared.Answer.TheVariants.{Accepted}
-use Rattle.answer.specs.Answer.{need, is_accepted}
-use Rattle.plan.specs.Plan.{most_steps, width_at, price_at, cycle_word, has_extra}
+use Rattle.answer.specs.declared.Refusal.{Refusal}
+use Rattle.answer.specs.declared.Refusal.TheVariants.{Steps, CycleWord, Digits, Dates, NoDay, NoPrice}
+use Rattle.answer.specs.Answer.{need}
+use Rattle.plan.specs.Plan.{most_steps, width_at, price_at, cycle, has_extra}
 
 -- every k below n
 unfoldable pub every : (ℕ → Bool) → ℕ → Bool
-every f zero = true
-every f (suc n) = every f n && f n
+every f n = list_all f (range_with_len 0 n)
 
 -- "2, steps byte not 01 to 06"
 unfoldable pub steps_good : Plan → Bool
@@ -37,17 +39,22 @@ numbers_good p =
     && (cond (has_extra p) (eight_digits p.first && eight_digits p.second) true && every (pair_good p) p.steps))
 
 -- "5, a read date not in the calendar above": start, end, both ends of the window, the first cycle day
+abbrev pub extra_dates : Cycle → Plan → Bool
+extra_dates Window p = is_date p.first && is_date p.second
+extra_dates Runs p = is_date p.first
+extra_dates _ p = true
+
 unfoldable pub dates_good : Plan → Bool
-dates_good p =
-    is_date p.start && (is_date p.end
-    && cond (eqb (cycle_word p) 4) (is_date p.first && is_date p.second) (cond (eqb (cycle_word p) 5) (is_date p.first) true))
+dates_good p = is_date p.start && (is_date p.end && extra_dates (cycle p) p)
 
 -- "6, no day in force, or days in a cycle 0"
+abbrev pub extra_days : Cycle → Plan → Bool
+extra_days Window p = ltb p.first p.second && (ltb p.start p.second && ltb p.first p.end)
+extra_days Runs p = leb 1 p.second
+extra_days _ p = true
+
 unfoldable pub some_day : Plan → Bool
-some_day p =
-    ltb p.start p.end
-    && cond (eqb (cycle_word p) 4) (ltb p.first p.second && (ltb p.start p.second && ltb p.first p.end))
-    (cond (eqb (cycle_word p) 5) (leb 1 p.second) true)
+some_day p = ltb p.start p.end && extra_days (cycle p) p
 
 -- "7, a price of 0 among the n"
 abbrev pub has_price : Plan → ℕ → Bool
@@ -56,15 +63,15 @@ has_price p i = leb 1 (price_at p i)
 unfoldable pub priced : Plan → Bool
 priced p = every (has_price p) p.steps
 
-unfoldable pub verdict : Plan → Answer
+unfoldable pub verdict : Plan → Result ⊤ Refusal
 verdict p =
-    need (steps_good p) 2
-    (need (word_good p) 3
-    (need (numbers_good p) 4
-    (need (dates_good p) 5
-    (need (some_day p) 6
-    (need (priced p) 7 Accepted)))))
+    need (steps_good p) Steps
+    (need (word_good p) CycleWord
+    (need (numbers_good p) Digits
+    (need (dates_good p) Dates
+    (need (some_day p) NoDay
+    (need (priced p) NoPrice (Ok tt))))))
 
 -- a plan that none of them refuses
 unfoldable pub is_good : Plan → Bool
-is_good p = is_accepted (verdict p)
+is_good p = is_ok (verdict p)

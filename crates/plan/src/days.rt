@@ -1,62 +1,43 @@
 // Document 01, "Days in force and cycles".
-ghost use Rattle.std.specs.Prelude.{◌≡◌, true, min, max};
+ghost use Rattle.std.specs.Prelude.{◌≡◌, true};
 ghost use Rattle.calendar.specs.Date.{is_date};
 ghost use Rattle.plan.specs.Rules.{is_good};
-ghost use Rattle.plan.specs.Force.{in_period, in_force, first_day, end_day, meet};
+ghost use Rattle.plan.specs.Force.{in_force, first_day, end_day, meet};
 ghost use Rattle.plan.specs.Cycles.{cycle_of};
 
 use crate::Plan;
-
-fn in_period(from: u32, to: u32, d: u32) -> bool
-    ensures { result ≡ in_period from to d }
-{
-    (from <= d) & (d < to)
-}
-
-fn later(a: u32, b: u32) -> u32
-    ensures { result ≡ max a b }
-{
-    if a < b { b } else { a }
-}
-
-fn earlier(a: u32, b: u32) -> u32
-    ensures { result ≡ min a b }
-{
-    if a < b { a } else { b }
-}
+use calendar::Cycle;
 
 impl Plan {
     #[tactic(auto, unfolding(crate::specs::Force::in_force))]
     pub fn in_force(self, d: u32) -> bool
         ensures { result ≡ in_force self d }
     {
-        if !in_period(self.start, self.end, d) {
-            return false;
-        }
-        if self.cycle_word() != 4 {
-            return true;
-        }
-        in_period(self.first, self.second, d)
+        (self.start..self.end).contains(&d)
+            && match self.cycle() {
+                Cycle::Window => (self.first..self.second).contains(&d),
+                _ => true,
+            }
     }
 
     #[tactic(auto, unfolding(crate::specs::Force::first_day))]
     fn first_day(self) -> u32
         ensures { result ≡ first_day self }
     {
-        if self.cycle_word() == 4 {
-            return later(self.start, self.first);
+        match self.cycle() {
+            Cycle::Window => self.start.max(self.first),
+            _ => self.start,
         }
-        self.start
     }
 
     #[tactic(auto, unfolding(crate::specs::Force::end_day))]
     fn end_day(self) -> u32
         ensures { result ≡ end_day self }
     {
-        if self.cycle_word() == 4 {
-            return earlier(self.end, self.second);
+        match self.cycle() {
+            Cycle::Window => self.end.min(self.second),
+            _ => self.end,
         }
-        self.end
     }
 
     // Whether some date on or after `d` is in force under both plans.
@@ -64,21 +45,20 @@ impl Plan {
     pub fn meets(self, other: Plan, d: u32) -> bool
         ensures { result ≡ meet self other d }
     {
-        let from = later(d, later(self.first_day(), other.first_day()));
-        from < earlier(self.end_day(), other.end_day())
+        let from = d.max(self.first_day().max(other.first_day()));
+        from < self.end_day().min(other.end_day())
     }
 
     // The cycle that a date lies in, by a number that tells the plan's cycles apart.
-    #[tactic(auto, unfolding(crate::specs::Cycles::cycle_of))]
+    #[tactic(auto, unfolding(crate::specs::Cycles::cycle_of), using(crate::proofs::Good::good))]
     pub fn cycle_of(self, d: u32) -> u32
         requires self_value { is_good self ≡ true }
         requires d_value { is_date d ≡ true }
         ensures { result ≡ cycle_of self d }
     {
-        let w = self.cycle_word();
-        if w == 5 {
-            return calendar::run_of(self.first, self.second, d);
+        match self.cycle() {
+            Cycle::Runs => calendar::run_of(self.first, self.second, d),
+            cycle => calendar::cycle_start(cycle, d),
         }
-        calendar::cycle_start(w, d)
     }
 }

@@ -1,33 +1,45 @@
 -- What is known of a record that is read. Assumes nothing.
-use mathlib.Core.Path.{◌≡◌, ◌∙◌}
-use mathlib.Core.Bool.{true}
+use mathlib.Core.Path.{◌≡◌, refl, sym, ap, ◌∙◌}
+use mathlib.Core.Bool.{Bool, true, false, true≢false}
 use mathlib.Core.List.{List}
 use Prim.Native.Nat.{ℕ}
 use lib.Dec.{eqb}
 use lib.ListN.{length}
-use Rattle.answer.specs.declared.Answer.TheVariants.{Accepted}
-use Rattle.answer.proofs.Tests.{need-rest}
+use Rattle.std.specs.Prelude.{⊤, Result, Ok, Err, is_ok}
+use Rattle.answer.specs.declared.Refusal.{Refusal}
+use Rattle.answer.specs.declared.Refusal.TheVariants.{RecordLength}
+use Rattle.answer.specs.Answer.{need, next}
+use Rattle.plan.specs.declared.Plan.{Plan}
 use Rattle.plan.specs.Plan.{tidy}
 use Rattle.plan.specs.Rules.{verdict, is_good}
 use Rattle.plan.proofs.Good.{good-verdict}
 use Rattle.plan.proofs.Tidy.{tidy-good}
-use Rattle.record.specs.Fields.{fields_of}
-use Rattle.record.specs.Record.{read_of}
+use Rattle.record.specs.Fields.{record_length, fields_of}
+use Rattle.record.specs.Record.{read_of, plan_in}
 
-module _ (s : List ℕ) (h : (read_of s).answer ≡ Accepted) where
-  -- none of the refusals 2 to 7 refuses its fields
-  pub read-verdict : verdict (fields_of s) ≡ Accepted
+-- a reading that accepts: its tests do, and it has the plan behind them
+accepts : (t : Bool) (n : Refusal) (v : Result ⊤ Refusal) (p : Plan)
+    → is_ok (need t n (next v (Ok p))) ≡ true → (v ≡ Ok tt) × (need t n (next v (Ok p)) ≡ Ok p)
+accepts true n (Ok tt) p h = (refl, refl)
+accepts true n (Err e) p h = absurd (true≢false (sym h))
+accepts false n v p h = absurd (true≢false (sym h))
+
+module _ (s : List ℕ) (h : is_ok (read_of s) ≡ true) where
+  accepted : (verdict (fields_of s) ≡ Ok tt) × (read_of s ≡ Ok (tidy (fields_of s)))
   unfolding read_of
-  read-verdict = need-rest (eqb (length s) 66) 1 (verdict (fields_of s)) h
+  accepted = accepts (eqb (length s) record_length) RecordLength (verdict (fields_of s)) (tidy (fields_of s)) h
+
+  -- none of the refusals 2 to 7 refuses its fields
+  pub read-verdict : verdict (fields_of s) ≡ Ok tt
+  read-verdict = accepted.0
 
   -- the plan is its read fields
-  pub read-plan : (read_of s).plan ≡ tidy (fields_of s)
-  unfolding read_of
-  read-plan = rw h
+  pub read-plan : plan_in (read_of s) ≡ tidy (fields_of s)
+  read-plan = ap plan_in accepted.1
 
   pub fields-good : is_good (fields_of s) ≡ true
   fields-good = good-verdict (fields_of s) read-verdict
 
 -- A PLAN THAT WAS READ IS GOOD
-pub read-good : (s : List ℕ) → (read_of s).answer ≡ Accepted → is_good (read_of s).plan ≡ true
+pub read-good : (s : List ℕ) → is_ok (read_of s) ≡ true → is_good (plan_in (read_of s)) ≡ true
 read-good s h = rw (read-plan s h) (tidy-good (fields_of s) ∙ fields-good s h)

@@ -1,13 +1,12 @@
 -- The bytes of a record one by one, and a buffer that is filled with them field by field. Assumes nothing.
 use mathlib.Core.Path.{◌≡◌, refl, ◌∙◌}
-use mathlib.Core.List.{List, [], ◌∷◌, ◌++◌}
+use mathlib.Core.List.{List, [], ◌∷◌}
 use Prim.Native.Nat.{ℕ, zero, suc, ◌<◌}
 use native.Mathlib.Nat.{not-suc-le-zero, le_of_suc-le-suc}
 use native.Mathlib.Omega.{arith}
 use lib.ListN.{length, get_or, set, drop_of_length-le}
-use lib.Seq.{length-sets, sets-eq}
+use lib.Seq.{sets-eq}
 use Rattle.plan.specs.declared.Plan.{Plan}
-use Rattle.record.specs.Digits.{four_bytes}
 use Rattle.record.specs.Fields.{two_at, pairs_in, bytes_of}
 
 -- f 0, f 1, .. : n of them
@@ -24,10 +23,6 @@ table_at f (suc n) (suc j) h = table_at (λ k. f (suc k)) n j (le_of_suc-le-suc 
 pub bytes-length : (p : Plan) → length (bytes_of p) ≡ 66
 unfolding bytes_of
 bytes-length p = refl
-
-pub two-long : (l : List ℕ) (i x y : ℕ) → length (two_at l i x y) ≡ length l
-unfolding two_at
-two-long l i x y = length-sets l i (four_bytes x ++ four_bytes y)
 
 -- a buffer l after the fields in front of the pairs
 abbrev front_in : Plan → List ℕ → List ℕ

@@ -1,6 +1,6 @@
 -- Both round trips: each field comes back from the bytes that it was written in, and is written in those that it was read from.
 -- Assumes nothing.
-use mathlib.Core.Path.{◌≡◌, refl, sym, ap, ◌∙◌}
+use mathlib.Core.Path.{◌≡◌, refl, ap, ◌∙◌}
 use mathlib.Core.Bool.{Bool, true, false, cond, not, ◌&&◌}
 use mathlib.Core.List.{List, [], ◌∷◌, ◌++◌}
 use Prim.Native.Nat.{ℕ, ◌+◌, ◌≤◌}
@@ -8,17 +8,19 @@ use native.Mathlib.Omega.{arith}
 use lib.Dec.{ltb}
 use lib.ListN.{get_or}
 use borrow.Author.Tests.{ltb-true, leb-true}
-use Rattle.answer.specs.declared.Answer.TheVariants.{Accepted}
-use Rattle.answer.proofs.Tests.{split}
+use Rattle.std.specs.Prelude.{Ok}
+use Rattle.answer.proofs.Tests.{cases, split}
+use Rattle.units.specs.declared.Hundredths.{Hundredths}
+use Rattle.units.specs.declared.TenThousandths.{TenThousandths}
 use Rattle.units.specs.Volume.{volume, price}
 use Rattle.plan.specs.declared.Plan.{Plan}
-use Rattle.plan.specs.Plan.{six, width_at, price_at, cycle_word, has_extra, kept_width, kept_price, tidy}
+use Rattle.plan.specs.Plan.{six, width_at, price_at, cycle_word, has_extra, kept, tidy}
 use Rattle.plan.specs.Rules.{most_number, eight_digits, numbers_good, verdict, is_good}
 use Rattle.plan.proofs.Good.{tests, verdict-good, width-bound, price-range}
 use Rattle.plan.proofs.Tidy.{tidy-verdict, tidy-again}
 use Rattle.record.specs.Digits.{quad_at, four_bytes}
 use Rattle.record.specs.Fields.{record_length, fields_of, bytes_of, byte_read}
-use Rattle.record.specs.Record.{read_of, write_answer, read_byte}
+use Rattle.record.specs.Record.{read_of, plan_in, write_answer, read_byte}
 use Rattle.record.specs.RoundTrips.{WrittenRead, ReadWritten, RoundTrips}
 use Rattle.record.proofs.Accepted.{read-verdict, read-plan, fields-good}
 use Rattle.record.proofs.Bytes.{table, table_at, bytes-length}
@@ -46,11 +48,17 @@ module _ (p : Plan) (h : is_good p ≡ true) where
         λ t. let f = split {a = eight_digits p.first} (rw t at x.0) in (leb-true _ _ f.0, leb-true _ _ f.1),
       )
 
-  width_back : (i : ℕ) → volume (quad_at (four_bytes (kept_width p i).0) 0) ≡ kept_width p i
-  width_back i = ap volume (kept_back _ _ (λ t. width-bound p h i (ltb-true _ _ t)))
+  width_back : (i : ℕ) → volume (quad_at (four_bytes (kept p p.widths (volume 0) i).0) 0) ≡ kept p p.widths (volume 0) i
+  width_back i =
+      cases (ltb i p.steps)
+      (λ t. rw t (ap volume (quad-back _ (width-bound p h i (ltb-true _ _ t)))))
+      (λ t. rw t (ap volume (quad-back 0 (omega arith))))
 
-  price-back : (i : ℕ) → price (quad_at (four_bytes (kept_price p i).0) 0) ≡ kept_price p i
-  price-back i = ap price (kept_back _ _ (λ t. (price-range p h i (ltb-true _ _ t)).1))
+  price-back : (i : ℕ) → price (quad_at (four_bytes (kept p p.prices (price 0) i).0) 0) ≡ kept p p.prices (price 0) i
+  price-back i =
+      cases (ltb i p.steps)
+      (λ t. rw t (ap price (quad-back _ (price-range p h i (ltb-true _ _ t)).1)))
+      (λ t. rw t (ap price (quad-back 0 (omega arith))))
 
   -- each field is read from the bytes that it was written in
   fields_back : fields_of (bytes_of (tidy p)) ≡ tidy p
@@ -61,8 +69,8 @@ module _ (p : Plan) (h : is_good p ≡ true) where
         quad-back p.end numbers.1,
         kept_back (has_extra p) p.first (λ t. (numbers.2 t).0),
         kept_back (has_extra p) p.second (λ t. (numbers.2 t).1),
-        six-same _ (kept_width p) width_back,
-        six-same _ (kept_price p) price-back,
+        six-same _ (kept p p.widths (volume 0)) width_back,
+        six-same _ (kept p p.prices (price 0)) price-back,
       )
 
 -- written and then read
@@ -88,14 +96,27 @@ word_kept : (t : Bool) (x : ℕ) → cond t 0 x ≡ cond (not t) x 0
 word_kept true x = refl
 word_kept false x = refl
 
+-- the number of what is kept
+number_of_volume : (t : Bool) (v : Hundredths) → (cond t v (volume 0)).0 ≡ cond t v.0 0
+number_of_volume true v = refl
+number_of_volume false v = refl
+
+number_of_price : (t : Bool) (c : TenThousandths) → (cond t c (price 0)).0 ≡ cond t c.0 0
+number_of_price true c = refl
+number_of_price false c = refl
+
 module _ (s : List ℕ) (h : is_good (fields_of s) ≡ true) where
   -- pair k, whose volume stands at byte i and whose price at byte j
   pair-kept : (k i j : ℕ) → width_at (fields_of s) k ≡ quad_at s i → price_at (fields_of s) k ≡ quad_at s j
-      → let t = ltb k (fields_of s).steps in
-      four_bytes (cond t (quad_at s i) 0) ++ four_bytes (cond t (quad_at s j) 0) ≡ four s t i ++ four s t j
+      → let p = fields_of s in
+      let t = ltb k p.steps in
+      four_bytes (kept p p.widths (volume 0) k).0 ++ four_bytes (kept p p.prices (price 0) k).0 ≡ four s t i ++ four s t j
   pair-kept k i j e f =
-      glue (field-kept s _ i (λ t. rw e at (width-bound (fields_of s) h k (ltb-true _ _ t))))
-      (field-kept s _ j (λ t. rw f at (price-range (fields_of s) h k (ltb-true _ _ t)).1))
+      let p = fields_of s in
+      let t = ltb k p.steps in
+      rw (number_of_volume t (get_or p.widths k (volume 0)), number_of_price t (get_or p.prices k (price 0)), e, f)
+      (glue (field-kept s t i (λ l. rw e at (width-bound p h k (ltb-true _ _ l))))
+      (field-kept s t j (λ l. rw f at (price-range p h k (ltb-true _ _ l)).1)))
 
   bytes-kept : bytes_of (tidy (fields_of s)) ≡ table (read_byte s) record_length
   unfolding fields_of bytes_of byte_read tidy cycle_word
@@ -119,11 +140,12 @@ module _ (s : List ℕ) (h : is_good (fields_of s) ≡ true) where
 -- read and then written
 read-written : ReadWritten
 read-written s out h m =
-    let v : verdict (read_of s).plan ≡ Accepted = rw (read-plan s h) (tidy-verdict (fields_of s) ∙ read-verdict s h) in
-    let w : write_answer (read_of s).plan out ≡ Accepted = sym (judged (read_of s).plan out Accepted m (sym v)) in (
+    let p = plan_in (read_of s) in
+    let v : verdict p ≡ Ok tt = rw (read-plan s h) (tidy-verdict (fields_of s) ∙ read-verdict s h) in
+    let w : write_answer p out ≡ Ok tt = judged p out m ∙ v in (
       w,
       λ i l.
-          rw ((filled (read_of s).plan out w).1, read-plan s h, tidy-again (fields_of s), bytes-kept s (fields-good s h))
+          rw ((filled p out w).1, read-plan s h, tidy-again (fields_of s), bytes-kept s (fields-good s h))
           (table_at (read_byte s) record_length i l),
     )
 

@@ -1,28 +1,29 @@
 -- Document 01, "Read a plan" and "Write a plan".
-use Rattle.std.specs.Prelude.{cond, List, ℕ, eqb, length, get_or}
-use Rattle.answer.specs.declared.Answer.{Answer}
-use Rattle.answer.specs.Answer.{need, is_accepted}
+use Rattle.std.specs.Prelude.{cond, List, ℕ, eqb, length, get_or, ⊤, Result, Ok, Err, is_ok}
+use Rattle.answer.specs.declared.Refusal.{Refusal}
+use Rattle.answer.specs.declared.Refusal.TheVariants.{RecordLength, BufferLength}
+use Rattle.answer.specs.Answer.{need, next}
 use Rattle.plan.specs.declared.Plan.{Plan}
 use Rattle.plan.specs.Plan.{tidy, no_plan}
 use Rattle.plan.specs.Rules.{verdict}
-use Rattle.record.specs.declared.Reading.{Reading}
 use Rattle.record.specs.Fields.{record_length, fields_of, bytes_of, byte_read}
 
--- the answer, with the plan's read fields where it accepts and no plan where it refuses
-abbrev pub reading_of : Plan → Answer → Reading
-reading_of p a = record { plan = cond (is_accepted a) (tidy p) no_plan; answer = a }
+-- "Read a plan: 1, length not 66", then 2 to 7; the plan's read fields where none refuses
+unfoldable pub read_of : List ℕ → Result Plan Refusal
+read_of s = need (eqb (length s) record_length) RecordLength (next (verdict (fields_of s)) (Ok (tidy (fields_of s))))
 
--- "Read a plan: 1, length not 66", then 2 to 7
-unfoldable pub read_of : List ℕ → Reading
-read_of s = reading_of (fields_of s) (need (eqb (length s) record_length) 1 (verdict (fields_of s)))
+-- the plan that was read, no plan where it is refused
+abbrev pub plan_in : Result Plan Refusal → Plan
+plan_in (Ok p) = p
+plan_in (Err n) = no_plan
 
 -- "Write a plan: 26, buffer not 66 bytes; then 2 to 7"
-unfoldable pub write_answer : Plan → List ℕ → Answer
-write_answer p out = need (eqb (length out) record_length) 26 (verdict p)
+unfoldable pub write_answer : Plan → List ℕ → Result ⊤ Refusal
+write_answer p out = need (eqb (length out) record_length) BufferLength (verdict p)
 
 -- what the buffer holds then: the read fields, and zero in the bytes that are not read; on a refusal it stands as before
 unfoldable pub written : Plan → List ℕ → List ℕ
-written p out = cond (is_accepted (write_answer p out)) (bytes_of (tidy p)) out
+written p out = cond (is_ok (write_answer p out)) (bytes_of (tidy p)) out
 
 -- byte i of a record where it is read, zero elsewhere
 abbrev pub read_byte : List ℕ → ℕ → ℕ

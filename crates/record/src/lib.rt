@@ -6,29 +6,22 @@ ghost use Rattle.std.specs.Prelude.{◌≡◌, ◌+◌, ◌≤◌, length};
 ghost use Rattle.std.proofs.lemmas.List.Edits.{sets};
 ghost use Rattle.record.specs.Digits.{number_of, quad_of, quad_at, four_bytes};
 ghost use Rattle.record.specs.Fields.{record_length, widths_of, prices_of, fields_of, two_at, pairs_in, bytes_of};
-ghost use Rattle.record.specs.Record.{reading_of, read_of, write_answer, written};
-ghost use Rattle.record.specs.Choice.{which, choice_of, part_of, handed};
+ghost use Rattle.record.specs.Record.{read_of, write_answer, written};
+ghost use Rattle.record.specs.Choice.{one_in_force, choice_of, part_chosen, part_of, handed};
 
-use answer::Answer;
+use answer::{Refusal, need};
 use plan::Plan;
+use std::array;
 use units::{Hundredths, TenThousandths};
 
 // The bytes of a record.
 pub const LENGTH: usize = 66;
 
-// A plan that was read, all zero where it is refused.
-#[derive(Clone, Copy)]
-pub struct Reading {
-    pub plan: Plan,
-    pub answer: Answer,
-}
-
-// Which of two records is in force on a date, or the refusal's number.
-#[derive(Clone, Copy)]
-pub enum Choice {
+// Which of two records.
+#[derive(Clone, Copy, PartialEq, Eq)]
+pub enum Which {
     First,
     Second,
-    Refused(u8),
 }
 
 // The number of four bytes.
@@ -38,7 +31,8 @@ fn number(a: u8, b: u8, c: u8, d: u8) -> u32
     ((digits::pair(a) * 100 + digits::pair(b)) * 100 + digits::pair(c)) * 100 + digits::pair(d)
 }
 
-// The field of four bytes: its number, or 100,000,000 where a digit is above 9.
+// The field of four bytes: its number, or 100,000,000 where a digit is above 9, which refusal 4 tells
+// from the plan, as in writing.
 #[tactic(auto, unfolding(crate::specs::Digits::quad_of))]
 fn quad(a: u8, b: u8, c: u8, d: u8) -> u32
     ensures { result ≡ quad_of a b c d }
@@ -59,32 +53,18 @@ fn quad_at(s: &[u8], at: usize) -> u32
 }
 
 // The six volumes, and the six prices.
-fn widths_of(s: &[u8]) -> [Hundredths; 6]
+fn widths_of(s: &[u8]) -> [Hundredths; Plan::MOST_STEPS]
     requires { length s.now ≡ record_length }
     ensures { result ≡ widths_of s.now }
 {
-    [
-        Hundredths(quad_at(s, 18)),
-        Hundredths(quad_at(s, 26)),
-        Hundredths(quad_at(s, 34)),
-        Hundredths(quad_at(s, 42)),
-        Hundredths(quad_at(s, 50)),
-        Hundredths(quad_at(s, 58)),
-    ]
+    array::from_fn(|i| Hundredths(quad_at(s, 18 + 8 * i)))
 }
 
-fn prices_of(s: &[u8]) -> [TenThousandths; 6]
+fn prices_of(s: &[u8]) -> [TenThousandths; Plan::MOST_STEPS]
     requires { length s.now ≡ record_length }
     ensures { result ≡ prices_of s.now }
 {
-    [
-        TenThousandths(quad_at(s, 22) as u64),
-        TenThousandths(quad_at(s, 30) as u64),
-        TenThousandths(quad_at(s, 38) as u64),
-        TenThousandths(quad_at(s, 46) as u64),
-        TenThousandths(quad_at(s, 54) as u64),
-        TenThousandths(quad_at(s, 62) as u64),
-    ]
+    array::from_fn(|i| TenThousandths(quad_at(s, 22 + 8 * i) as u64))
 }
 
 // The fields of a record as it stands.
@@ -105,32 +85,15 @@ fn fields_of(s: &[u8]) -> Plan
     }
 }
 
-// The plan's read fields where the answer accepts, no plan where it refuses.
-fn answered(p: Plan, a: Answer) -> Reading
-    ensures { result ≡ reading_of p a }
-{
-    if a.accepted() {
-        return Reading {
-            plan: p.tidy(),
-            answer: a,
-        };
-    }
-    Reading {
-        plan: Plan::none(),
-        answer: a,
-    }
-}
-
-// Reads a plan from a lent slice of any length: the plan, or 1 to 7.
+// Reads a plan from a lent slice of any length: its read fields, or 1 to 7.
 #[tactic(auto, unfolding(crate::specs::Record::read_of))]
-pub fn read(s: &[u8]) -> Reading
+pub fn read(s: &[u8]) -> Result<Plan, Refusal>
     ensures { result ≡ read_of s.now }
 {
-    if s.len() != LENGTH {
-        return answered(Plan::none(), Answer::Refused(1));
-    }
+    need(s.len() == LENGTH, Refusal::RecordLength)?;
     let p = fields_of(s);
-    answered(p, p.vet())
+    p.vet()?;
+    Ok(p.tidy())
 }
 
 // Writes a number of eight digits into the four bytes that begin at byte `at`.
@@ -159,16 +122,13 @@ fn put_pairs(p: Plan, out: &mut [u8])
     requires { length out.old ≡ record_length }
     ensures { out.new ≡ pairs_in p out.old 6 }
 {
-    let mut i = 0;
-    while i < Plan::MOST_STEPS {
-        let width = p.widths[i];
-        let price = p.prices[i];
-        put_two(width.0 as u64, price.0, 18 + 8 * i, out);
-        i += 1;
+    for i in 0..Plan::MOST_STEPS {
+        put_two(p.widths[i].0 as u64, p.prices[i].0, 18 + 8 * i, out);
     }
 }
 
 // Fills a buffer with the bytes of a plan, every field of it.
+#[tactic(auto, using(crate::proofs::Bytes::all_in))]
 fn put(p: Plan, out: &mut [u8])
     requires { length out.old ≡ record_length }
     ensures { out.new ≡ bytes_of p }
@@ -182,65 +142,46 @@ fn put(p: Plan, out: &mut [u8])
 
 // Writes a plan into a lent buffer: its read fields and zero elsewhere; or 26, then 2 to 7, and the
 // buffer stands as before.
-pub fn write(p: Plan, out: &mut [u8]) -> Answer
+#[tactic(auto, unfolding(crate::specs::Record::write_answer, crate::specs::Record::written))]
+pub fn write(p: Plan, out: &mut [u8]) -> Result<(), Refusal>
     ensures { (result ≡ write_answer p out.old) × (out.new ≡ written p out.old) }
 {
-    if out.len() != LENGTH {
-        return Answer::Refused(26);
-    }
-    let a = p.vet();
-    if a.accepted() {
-        put(p.tidy(), out);
-        return a;
-    }
-    a
+    need(out.len() == LENGTH, Refusal::BufferLength)?;
+    p.vet()?;
+    put(p.tidy(), out);
+    Ok(())
 }
 
 // The one of two that is in force; 12 where both are, 24 where neither is.
-fn which(one: bool, two: bool) -> Choice
-    ensures { result ≡ which one two }
+fn one_in_force(first: bool, second: bool) -> Result<Which, Refusal>
+    ensures { result ≡ one_in_force first second }
 {
-    if one {
-        if two {
-            return Choice::Refused(12);
-        }
-        return Choice::First;
+    match (first, second) {
+        (true, true) => Err(Refusal::Overlap),
+        (true, false) => Ok(Which::First),
+        (false, true) => Ok(Which::Second),
+        (false, false) => Err(Refusal::NoPlan),
     }
-    if two {
-        return Choice::Second;
-    }
-    Choice::Refused(24)
 }
 
 // Which of two lent records is in force on a date.
 #[tactic(auto, unfolding(crate::specs::Choice::choice_of))]
-pub fn choose<'a>(first: &'a [u8], second: &'a [u8], date: u32) -> Choice
+pub fn choose(first: &[u8], second: &[u8], date: u32) -> Result<Which, Refusal>
     ensures { result ≡ choice_of first.now second.now date }
 {
-    if !calendar::is_date(date) {
-        return Choice::Refused(8);
-    }
-    let a = read(first);
-    let one = a.answer;
-    if let Answer::Refused(n) = one {
-        return Choice::Refused(n);
-    }
-    let b = read(second);
-    let two = b.answer;
-    if let Answer::Refused(n) = two {
-        return Choice::Refused(n);
-    }
-    which(a.plan.in_force(date), b.plan.in_force(date))
+    need(calendar::is_date(date), Refusal::Stamp)?;
+    let a = read(first)?;
+    let b = read(second)?;
+    one_in_force(a.in_force(date), b.in_force(date))
 }
 
-// The part that a choice hands back, an empty one on a refusal.
-pub fn pick<'a>(first: &'a [u8], second: &'a [u8], c: Choice) -> &'a [u8]
-    ensures { (result ≡ handed c first.entry second.entry result) × (result.now ≡ part_of c first.now second.now) }
+// The record in force on a date, the first or the second itself; or the refusal.
+pub fn part_in_force<'a>(first: &'a [u8], second: &'a [u8], date: u32) -> Result<&'a [u8], Refusal>
+    ensures { result ≡ part_chosen (choice_of first.now second.now date) first.entry second.entry }
 {
-    match c {
-        Choice::First => first,
-        Choice::Second => second,
-        Choice::Refused(_) => &first[0..0],
+    match choose(first, second, date)? {
+        Which::First => Ok(first),
+        Which::Second => Ok(second),
     }
 }
 
@@ -249,5 +190,5 @@ pub fn in_force<'a>(first: &'a [u8], second: &'a [u8], date: u32) -> &'a [u8]
     ensures { (result ≡ handed (choice_of first.now second.now date) first.entry second.entry result)
         × (result.now ≡ part_of (choice_of first.now second.now date) first.now second.now) }
 {
-    pick(first, second, choose(first, second, date))
+    part_in_force(first, second, date).unwrap_or(&first[0..0])
 }
