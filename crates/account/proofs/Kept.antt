@@ -11,7 +11,8 @@ use lib.Signed.{le_z}
 use Rattle.units.specs.Money.{Small, in_bounds, in_millionths, highest_balance}
 use Rattle.units.proofs.Integers.{plus, le-true, lt-false, small-dn}
 use Rattle.units.proofs.Balance.{are-bounds, in_small, debit-in, credit-in}
-use Rattle.answer.specs.declared.Answer.TheVariants.{Accepted}
+use Rattle.std.specs.Prelude.{Ok}
+use Rattle.answer.specs.declared.Refusal.TheVariants.{Serial, SerialAgain, SerialBelow, SerialAbove, NoAmount, Balance}
 use Rattle.answer.proofs.Tests.{split, need-both}
 use Rattle.account.specs.declared.Account.{Account}
 use Rattle.account.specs.Account.{highest_alarm, recharge_refusal, recharged, alarms_good, alarmed, charged, account_good, is_fresh_account}
@@ -77,14 +78,14 @@ pub record Vetted (a : Account) (amount serial : ℕ) : Type 0 where
   pub takes : le_z (a.balance.0 +ℤ pos (in_millionths amount)) (pos highest_balance) ≡ true
 
 -- an accepted recharge has passed them
-pub vetted : (a : Account) (amount serial : ℕ) → recharge_refusal a amount serial ≡ Accepted → Vetted a amount serial
+pub vetted : (a : Account) (amount serial : ℕ) → recharge_refusal a amount serial ≡ Ok tt → Vetted a amount serial
 unfolding recharge_refusal
 vetted a amount serial e =
-    let v15 = need-both 15 e in
-    let v16 = need-both 16 v15.1 in
-    let v17 = need-both 17 v16.1 in
-    let v18 = need-both 18 v17.1 in
-    let v19 = need-both 19 v18.1 in
+    let v15 = need-both Serial e in
+    let v16 = need-both SerialAgain v15.1 in
+    let v17 = need-both SerialBelow v16.1 in
+    let v18 = need-both SerialAbove v17.1 in
+    let v19 = need-both NoAmount v18.1 in
     let range = split v15.0 in
     let other : serial ≡ a.serial → ⊥ = eqb-false _ _ (not-true (eqb serial a.serial) v16.0) in
     record {
@@ -92,11 +93,11 @@ vetted a amount serial e =
       high = leb-true _ _ range.1;
       next = omega (arith, leb-true a.serial serial v17.0, leb-true serial (a.serial + 1) v18.0);
       some = leb-true _ _ v19.0;
-      takes = (need-both 20 v19.1).0;
+      takes = (need-both Balance v19.1).0;
     }
 
 -- an accepted recharge keeps the bounds
-pub recharged-good : (a : Account) (total amount serial : ℕ) → recharge_refusal a amount serial ≡ Accepted → account_good a total ≡ true
+pub recharged-good : (a : Account) (total amount serial : ℕ) → recharge_refusal a amount serial ≡ Ok tt → account_good a total ≡ true
     → account_good (recharged a amount serial) total ≡ true
 recharged-good a total amount serial r e =
     let p = good-parts a total e in
@@ -105,7 +106,7 @@ recharged-good a total amount serial r e =
     (record { serial = v.high; alarms = p.alarms; bounds = credit-in highest_balance a.balance.0 total (in_millionths amount) v.takes p.bounds })
 
 -- the amount of an accepted recharge fits
-pub recharge-small : (a : Account) (total amount serial : ℕ) → account_good a total ≡ true → total ≤ 99999999 → recharge_refusal a amount serial ≡ Accepted
+pub recharge-small : (a : Account) (total amount serial : ℕ) → account_good a total ≡ true → total ≤ 99999999 → recharge_refusal a amount serial ≡ Ok tt
     → amount ≤ 2 ^ 55
 recharge-small a total amount serial e h r =
     let z = a.balance.0 in

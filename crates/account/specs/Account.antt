@@ -1,11 +1,11 @@
 -- Document 01: balance, last serial and alarms. "Recharge (ten-thousandths and a serial)", "Alarms (whole yuan)", and their bounds.
-use Rattle.std.specs.Prelude.{Bool, not, ◌&&◌, ℕ, ◌+◌, leb, ltb, eqb, pos}
+use Rattle.std.specs.Prelude.{Bool, not, ◌&&◌, ℕ, ◌+◌, leb, ltb, eqb, pos, ⊤, Result, Ok}
 use Rattle.std.specs.Int.Signed.{le_z, lt_z}
 use Rattle.units.specs.declared.Millionths.{Millionths}
 use Rattle.units.specs.Volume.{price}
 use Rattle.units.specs.Money.{money, in_millionths, credited, debited, takes, in_bounds, highest_balance}
-use Rattle.answer.specs.declared.Answer.{Answer}
-use Rattle.answer.specs.declared.Answer.TheVariants.{Accepted}
+use Rattle.answer.specs.declared.Refusal.{Refusal}
+use Rattle.answer.specs.declared.Refusal.TheVariants.{Serial, SerialAgain, SerialBelow, SerialAbove, NoAmount, Balance}
 use Rattle.answer.specs.Answer.{need}
 use Rattle.account.specs.declared.Account.{Account}
 
@@ -26,14 +26,14 @@ with_balance a b = record { balance = b; serial = a.serial; one = a.one; two = a
 
 -- "15, serial 0 or above 65,535; 16, the last serial again; 17, below it; 18, more than one above; 19, amount 0; 20, balance would
 -- pass 999,999.99 yuan"
-unfoldable pub recharge_refusal : Account → ℕ → ℕ → Answer
+unfoldable pub recharge_refusal : Account → ℕ → ℕ → Result ⊤ Refusal
 recharge_refusal a amount serial =
-    need (leb 1 serial && leb serial highest_serial) 15
-    (need (not (eqb serial a.serial)) 16
-    (need (leb a.serial serial) 17
-    (need (leb serial (a.serial + 1)) 18
-    (need (leb 1 amount) 19
-    (need (takes highest_balance a.balance (price amount)) 20 Accepted)))))
+    need (leb 1 serial && leb serial highest_serial) Serial
+    (need (not (eqb serial a.serial)) SerialAgain
+    (need (leb a.serial serial) SerialBelow
+    (need (leb serial (a.serial + 1)) SerialAbove
+    (need (leb 1 amount) NoAmount
+    (need (takes highest_balance a.balance (price amount)) Balance (Ok tt))))))
 
 -- "Recharge: balance grows"
 abbrev pub recharged : Account → ℕ → ℕ → Account

@@ -1,6 +1,21 @@
 -- The codes of a call: the rules give a list of numbers, and the answer holds an array of eight with a count.
 use Rattle.std.specs.Prelude.{Bool, cond, List, [], ◌∷◌, ℕ, ◌+◌, ltb, set, replicate, take}
 use Rattle.account.specs.declared.Codes.{Codes}
+use Rattle.account.specs.declared.Event.{Event}
+use Rattle.account.specs.declared.Event.TheVariants.{PlanEnded, ValveOpened, ValveClosed, Recharged, Set, Commanded, AtAlarmOne, AtAlarmTwo, AtZero, InDebt}
+
+-- the code of each event, in the order of the numbers but for the first, "80 02 00 12"
+abbrev pub event_code : Event → ℕ
+event_code PlanEnded = 0x80020012
+event_code ValveOpened = 0x11
+event_code ValveClosed = 0x12
+event_code Recharged = 0x21
+event_code Set = 0x27
+event_code Commanded = 0x2B
+event_code AtAlarmOne = 0x2E
+event_code AtAlarmTwo = 0x2F
+event_code AtZero = 0x30
+event_code InDebt = 0x33
 
 abbrev pub no_codes : Codes
 no_codes = record { count = 0; said = replicate 8 0 }

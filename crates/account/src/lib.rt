@@ -9,12 +9,12 @@ ghost use Rattle.units.specs.Money.{Small};
 ghost use Rattle.account.specs.Account.{fresh_account, is_fresh_account, recharge_refusal, recharged, alarms_good, alarmed, charged, account_good};
 ghost use Rattle.account.specs.Fall.{fall_of};
 
-use answer::Answer;
+use answer::Refusal;
 use units::{Charge, Hundredths, Millionths, TenThousandths};
 
 // The balance, the last accepted serial (0 before the first), and the two alarms in whole yuan.
 #[repr(C)]
-#[derive(Clone, Copy)]
+#[derive(Clone, Copy, PartialEq, Eq)]
 pub struct Account {
     pub balance: Millionths,
     pub serial: u32,
@@ -24,22 +24,37 @@ pub struct Account {
 
 // The station mark, "allow" or "forbid", and the valve.
 #[repr(C)]
-#[derive(Clone, Copy)]
+#[derive(Clone, Copy, PartialEq, Eq)]
 pub struct Valve {
     pub allow: bool,
     pub opened: bool,
 }
 
-// Event codes in their order, as 0x12 and, for "80 02 00 12", 0x80020012.
+// What a call tells besides its answer, each with its code; the code of a plan's end is "80 02 00 12".
+#[derive(Clone, Copy, Debug, PartialEq, Eq)]
+pub enum Event {
+    PlanEnded = 0x80020012,
+    ValveOpened = 0x11,
+    ValveClosed = 0x12,
+    Recharged = 0x21,
+    Set = 0x27,
+    Commanded = 0x2B,
+    AtAlarmOne = 0x2E,
+    AtAlarmTwo = 0x2F,
+    AtZero = 0x30,
+    InDebt = 0x33,
+}
+
+// Event codes in their order. A host reads the array and its count, so it stays no list of events.
 #[repr(C)]
-#[derive(Clone, Copy)]
+#[derive(Clone, Copy, PartialEq, Eq)]
 pub struct Codes {
     pub count: usize,
     pub said: [u32; 8],
 }
 
 // A valve on its way past the thresholds, with the codes so far.
-#[derive(Clone, Copy)]
+#[derive(Clone, Copy, PartialEq, Eq)]
 pub struct Fall {
     pub opened: bool,
     pub codes: Codes,
@@ -81,10 +96,7 @@ impl Account {
     pub fn is_fresh(self) -> bool
         ensures { result ≡ is_fresh_account self }
     {
-        self.balance.at_or_below(Charge(0))
-            & (!self.balance.negative()
-                & ((self.serial == 0)
-                    & ((self.one == Account::ALARM_ONE) & (self.two == Account::ALARM_TWO))))
+        self == Account::fresh()
     }
 
     // The bounds of an account that a host hands in.
@@ -98,36 +110,20 @@ impl Account {
 
     // Refusals 15 to 20, in their order.
     #[tactic(auto, unfolding(crate::specs::Account::recharge_refusal))]
-    pub fn vet(self, amount: TenThousandths, serial: u32) -> Answer
+    pub fn vet(self, amount: TenThousandths, serial: u32) -> Result<(), Refusal>
         requires small { Small self.balance.0 }
         requires serial_bound { self.serial ≤ 65535 }
         ensures { result ≡ recharge_refusal self amount.0 serial }
     {
-        Answer::need(
+        answer::need(
             (1 <= serial) & (serial <= Account::MOST_SERIAL),
-            15,
-            Answer::need(
-                serial != self.serial,
-                16,
-                Answer::need(
-                    self.serial <= serial,
-                    17,
-                    Answer::need(
-                        serial <= self.serial + 1,
-                        18,
-                        Answer::need(
-                            1 <= amount.0,
-                            19,
-                            Answer::need(
-                                self.balance.takes(Account::TOP, amount),
-                                20,
-                                Answer::Accepted,
-                            ),
-                        ),
-                    ),
-                ),
-            ),
-        )
+            Refusal::Serial,
+        )?;
+        answer::need(serial != self.serial, Refusal::SerialAgain)?;
+        answer::need(self.serial <= serial, Refusal::SerialBelow)?;
+        answer::need(serial <= self.serial + 1, Refusal::SerialAbove)?;
+        answer::need(1 <= amount.0, Refusal::NoAmount)?;
+        answer::need(self.balance.takes(Account::TOP, amount), Refusal::Balance)
     }
 
     pub fn recharged(self, amount: TenThousandths, serial: u32) -> Account
@@ -135,19 +131,17 @@ impl Account {
         requires amount_bound { amount.0 ≤ 2 ^ 55 }
         ensures { result ≡ recharged self amount.0 serial }
     {
-        let mut next = self;
-        next.balance = self.balance.credit(amount.in_millionths());
-        next.serial = serial;
-        next
+        Account {
+            balance: self.balance + amount.in_millionths(),
+            serial,
+            ..self
+        }
     }
 
     pub fn alarmed(self, one: u32, two: u32) -> Account
         ensures { result ≡ alarmed self one two }
     {
-        let mut next = self;
-        next.one = one;
-        next.two = two;
-        next
+        Account { one, two, ..self }
     }
 
     pub fn charged(self, cost: Charge) -> Account
@@ -155,9 +149,10 @@ impl Account {
         requires cost_bound { cost.0 < 2 ^ 62 }
         ensures { result ≡ charged self cost.0 }
     {
-        let mut next = self;
-        next.balance = self.balance.debit(cost);
-        next
+        Account {
+            balance: self.balance - cost,
+            ..self
+        }
     }
 
     // The balance falls to `is`: the valve and the codes.
@@ -165,16 +160,13 @@ impl Account {
         ensures { result ≡ fall_of self is.0 opened codes }
     {
         let was = self.balance;
-        let mut f = Fall { opened, codes };
         let one = thresholds::crosses(was, is, Charge::yuan(self.one));
-        f = f.strike(one, Codes::AT_ALARM_ONE, false);
         let two = thresholds::crosses(was, is, Charge::yuan(self.two));
-        f = f.strike(two, Codes::AT_ALARM_TWO, true);
-        f = f.strike(
-            thresholds::crosses(was, is, Charge(0)),
-            Codes::AT_ZERO,
-            true,
-        );
-        f.strike(thresholds::sinks(was, is), Codes::IN_DEBT, false)
+        let zero = thresholds::crosses(was, is, Charge(0));
+        Fall { opened, codes }
+            .strike(one, Event::AtAlarmOne, false)
+            .strike(two, Event::AtAlarmTwo, true)
+            .strike(zero, Event::AtZero, true)
+            .strike(thresholds::sinks(was, is), Event::InDebt, false)
     }
 }

@@ -1,12 +1,12 @@
 // The valve with the station mark, and the balance's thresholds on which it closes.
 ghost use Rattle.std.specs.Prelude.{◌≡◌, not, ◌&&◌, ◌<◌, ◌^◌, pos};
 ghost use Rattle.std.specs.Int.Signed.{le_z, lt_z};
-ghost use Rattle.account.specs.Codes.{note_all};
+ghost use Rattle.account.specs.Codes.{note_all, event_code};
 ghost use Rattle.account.specs.Valve.{fresh_valve, is_fresh_valve, valve_set, valve_kept, commanded, command_codes, key_codes};
 ghost use Rattle.account.specs.Fall.{struck};
 
-use crate::{Codes, Fall, Valve};
-use units::{Charge, Millionths};
+use crate::{Codes, Event, Fall, Valve};
+use units::{Charge, Millionths, Signed};
 
 impl Valve {
     // Mark "allow" and closed.
@@ -23,15 +23,13 @@ impl Valve {
     pub fn is_fresh(self) -> bool
         ensures { result ≡ is_fresh_valve self }
     {
-        self.allow & !self.opened
+        self == Valve::fresh()
     }
 
     pub fn set(self, opened: bool) -> Valve
         ensures { result ≡ valve_set self opened }
     {
-        let mut next = self;
-        next.opened = opened;
-        next
+        Valve { opened, ..self }
     }
 
     // Open only where it was and `still` holds.
@@ -45,9 +43,10 @@ impl Valve {
     pub fn commanded(self, allow: bool) -> Valve
         ensures { result ≡ commanded self allow }
     {
-        let mut next = self.kept(allow);
-        next.allow = allow;
-        next
+        Valve {
+            allow,
+            ..self.kept(allow)
+        }
     }
 
     #[tactic(auto, unfolding(crate::specs::Codes::note_all, crate::specs::Valve::command_codes))]
@@ -55,15 +54,15 @@ impl Valve {
         ensures { result ≡ note_all codes (command_codes self allow) }
     {
         codes
-            .note(Codes::COMMANDED)
-            .note_if(self.opened & !allow, Codes::VALVE_CLOSED)
+            .note(Event::Commanded)
+            .note_if(self.opened & !allow, Event::ValveClosed)
     }
 
     #[tactic(auto, unfolding(crate::specs::Valve::key_codes))]
     pub fn key_codes(self, codes: Codes) -> Codes
         ensures { result ≡ note_all codes (key_codes self) }
     {
-        codes.note_if(!self.opened, Codes::VALVE_OPENED)
+        codes.note_if(!self.opened, Event::ValveOpened)
     }
 }
 
@@ -85,14 +84,14 @@ pub(crate) fn sinks(was: Millionths, is: Millionths) -> bool
 impl Fall {
     // One threshold.
     #[tactic(auto, unfolding(crate::specs::Codes::note_all, crate::specs::Fall::valve_after, crate::specs::Fall::mark_codes))]
-    pub(crate) fn strike(self, hit: bool, code: u32, closes: bool) -> Fall
-        ensures { result ≡ struck self hit code closes }
+    pub(crate) fn strike(self, hit: bool, event: Event, closes: bool) -> Fall
+        ensures { result ≡ struck self hit (event_code event) closes }
     {
         if !hit {
             return self;
         }
         let shuts = closes & self.opened;
-        let codes = self.codes.note(code).note_if(shuts, Codes::VALVE_CLOSED);
+        let codes = self.codes.note(event).note_if(shuts, Event::ValveClosed);
         Fall {
             opened: self.opened & !closes,
             codes,

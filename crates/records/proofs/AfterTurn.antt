@@ -1,7 +1,7 @@
 -- The records that the words hold after a push, and after the turn of a day. Assumes nothing.
-use mathlib.Core.Path.{◌≡◌, refl, ap, ◌∙◌}
+use mathlib.Core.Path.{◌≡◌, refl, ◌∙◌}
 use mathlib.Core.List.{List}
-use Prim.Native.Nat.{ℕ, zero, suc, ◌+◌, ◌*◌, ◌/◌, ◌^◌, ◌≤◌, ◌<◌}
+use Prim.Native.Nat.{ℕ, ◌+◌, ◌*◌, ◌/◌, ◌^◌, ◌≤◌, ◌<◌}
 use native.Mathlib.Omega.{arith}
 use lib.ListN.{length, get_or}
 use lib.Signed.{mag}
@@ -12,7 +12,7 @@ use Rattle.records.specs.declared.Record.{Record}
 use Rattle.records.specs.declared.Periods.{Periods}
 use Rattle.records.specs.Records.{in_front}
 use Rattle.records.specs.Turn.{later_month, closed, day_record, month_record}
-use Rattle.records.specs.Words.{rows, held_from, held_of, no_words}
+use Rattle.records.specs.Words.{held_from, held_of, no_words}
 use Rattle.records.specs.Moves.{pushed, closed_words}
 use Rattle.records.proofs.Pushed.{Fits, rows_same, pushed_long, pushed-before, pushed-after, pushed-count, pushed-rows}
 
@@ -20,16 +20,6 @@ use Rattle.records.proofs.Pushed.{Fits, rows_same, pushed_long, pushed-before, p
 pub none-long : length no_words ≡ 548
 unfolding no_words
 none-long = refl
-
--- as many are held as the count says
-rows_long : (h : List ℕ) (at n : ℕ) → length (rows h at n) ≡ n
-unfolding rows
-rows_long h at zero = refl
-rows_long h at (suc n) = ap suc (rows_long h (at + 3) n)
-
-pub held-long : (from : ℕ) (h : List ℕ) → length (held_from from h) ≡ get_or h from 0
-unfolding held_from
-held-long from h = rows_long h (from + 1) (get_or h from 0)
 
 -- a day or a month is pushed, and the others stay; months stay only where no more are counted than the words have room for
 module _ (r : Record) (h : List ℕ) (long : length h ≡ 548) where

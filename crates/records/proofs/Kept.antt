@@ -1,7 +1,7 @@
 -- The bounds of the open periods and of the held records are kept: by a greater total, by pulses that are counted, and by the turn of a
 -- day. Assumes nothing.
 use mathlib.Core.Path.{◌≡◌, refl}
-use mathlib.Core.Bool.{Bool, true, false, cond}
+use mathlib.Core.Bool.{true}
 use mathlib.Core.List.{List, [], ◌∷◌}
 use Prim.Native.Nat.{ℕ, zero, suc, ◌+◌, ◌*◌, ◌≤◌}
 use native.Mathlib.Omega.{arith}
@@ -11,7 +11,7 @@ use lib.ListN.{take, length, length-take}
 use Rattle.units.specs.declared.Millionths.{Millionths}
 use Rattle.units.specs.Money.{in_bounds}
 use Rattle.units.proofs.Balance.{total-in}
-use Rattle.answer.proofs.Tests.{split}
+use Rattle.answer.proofs.Tests.{either, split}
 use Rattle.records.specs.declared.Record.{Record}
 use Rattle.records.specs.declared.Tally.{Tally}
 use Rattle.records.specs.declared.Periods.{Periods}
@@ -49,10 +49,6 @@ module _ (top total n : ℕ) where
           let w = tally-is total t g in
           is-tally (total + n) (tallied t n c) (record { volumes = omega arith; charges = omega arith })
 
-either : {A : Type 0} (P : A → Type 0) (later : Bool) {x y : A} → P x → P y → P (cond later x y)
-either P true p q = p
-either P false p q = q
-
 -- the turn of a day
 module _ (top total : ℕ) where
   nothing-good : tally_good total nothing ≡ true
@@ -62,7 +58,7 @@ module _ (top total : ℕ) where
   unfolding opened
   opened-good p from to h =
       are-periods total (opened p from to) nothing-good
-      (either (λ t. tally_good total t ≡ true) (later_month from to) nothing-good (periods-are total p h).1)
+      (either (λ t. tally_good total t ≡ true) (later_month from to) (λ _. nothing-good) (λ _. (periods-are total p h).1))
 
   -- some of good records
   good-take : (n : ℕ) (l : List Record) → records_good top total l ≡ true → records_good top total (take n l) ≡ true
@@ -97,12 +93,12 @@ module _ (top total : ℕ) where
       are-held top total (closed h p from to closing)
       record {
         day_few = front-few 62 day h.days;
-        month_few = either (λ (l : List Record). length l ≤ 120) (later_month from to) (front-few 120 month h.months) a.month_few;
+        month_few = either (λ (l : List Record). length l ≤ 120) (later_month from to) (λ _. front-few 120 month h.months) (λ _. a.month_few);
         days = front-good 62 day h.days (ended-good from p.day closing t.0 b) a.days;
         months =
             either (λ (l : List Record). records_good top total l ≡ true) (later_month from to)
-            (front-good 120 month h.months (ended-good _ p.month closing t.1 b) a.months)
-            a.months;
+            (λ _. front-good 120 month h.months (ended-good _ p.month closing t.1 b) a.months)
+            (λ _. a.months);
       }
 
 -- fresh values are within the bounds

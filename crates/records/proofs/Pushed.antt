@@ -6,12 +6,19 @@ use native.Mathlib.Omega.{arith}
 use native.Mathlib.Nat.{add-zero, add_assoc}
 use lib.ListN.{take, drop, get_or, length, length-append, length-drop, get_or-append}
 use lib.Seq.{length-take-le, get_or-take, get_or-drop, get_or-append-add}
+use lib.IntN.{ℤ, pos, negsuc}
 use lib.Signed.{mag}
+use mir.Syntax.{w64}
+use mir.ValLaws.{to_z-of_z}
 use Rattle.records.specs.declared.Record.{Record}
 use Rattle.records.specs.Records.{in_front}
-use Rattle.records.specs.Words.{balance_word, record_words, record_from, record_at, rows, held_from}
+use Rattle.records.specs.Words.{balance_of, balance_word, record_words, record_from, record_at, rows, held_from}
 use Rattle.records.specs.Moves.{pushed}
-use Rattle.records.proofs.Balances.{read_back}
+
+-- a balance is read again from its word
+read_back : (z : ℤ) → mag z < 2 ^ 63 → balance_of (balance_word z) ≡ z
+read_back (pos n) h = to_z-of_z w64 (pos n) (record { sfits = h })
+read_back (negsuc n) h = to_z-of_z w64 (negsuc n) (record { sfits = h })
 
 -- a record whose numbers fit their words
 pub record Fits (r : Record) : Type 0 where

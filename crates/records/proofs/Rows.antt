@@ -1,64 +1,58 @@
--- The records one by one: the next of those that are left, and record k. Assumes nothing.
-use mathlib.Core.Path.{◌≡◌, refl}
+-- The records of a shelf: how many there are, and record k, as the words say it. Assumes nothing.
+use mathlib.Core.Path.{◌≡◌, refl, ap}
 use mathlib.Core.List.{List, [], ◌∷◌}
-use Prim.Native.Nat.{ℕ, zero, suc, ◌+◌, ◌-◌, ◌*◌, ◌≤◌, ◌<◌}
+use Prim.Native.Nat.{ℕ, zero, suc, ◌+◌, ◌*◌, ◌≤◌, ◌<◌}
 use native.Mathlib.Omega.{arith}
-use Rattle.records.specs.declared.Fetched.TheVariants.{Held, Refused}
-use Rattle.records.specs.Queries.{fetched}
-use lib.ListN.{get_or}
+use lib.ListN.{length, get_or}
+use Rattle.std.specs.Prelude.{Ok, Err}
+use Rattle.answer.specs.declared.Refusal.TheVariants.{NotHeld}
+use Rattle.records.specs.declared.Record.{Record}
+use Rattle.records.specs.declared.Shelf.{Shelf}
+use Rattle.records.specs.declared.Shelf.TheVariants.{Day, Month}
 use Rattle.records.specs.Records.{no_record}
-use Rattle.records.specs.Words.{record_at, rows}
+use Rattle.records.specs.Queries.{fetched}
+use Rattle.records.specs.Words.{shelf_place, record_at, rows, held_from, held_on}
 
-module _ (h : List ℕ) (from n : ℕ) where
-  -- all are left
-  pub rows_all : rows h (from + 1) n ≡ rows h (from + 3 * 0 + 1) (n - 0)
-  rows_all =
-      let p : from + 3 * 0 + 1 ≡ from + 1 = omega arith in
-      let q : n - 0 ≡ n = omega arith in
-      rw (p, q)
+-- as many are held as the count says
+rows_long : (h : List ℕ) (at n : ℕ) → length (rows h at n) ≡ n
+unfolding rows
+rows_long h at zero = refl
+rows_long h at (suc n) = ap suc (rows_long h (at + 3) n)
 
-  -- record i is the next
-  pub rows_next : (i : ℕ)
-      → i < n
-      → rows h (from + 3 * i + 1) (n - i) ≡ record_at h (from + 3 * i + 1) ∷ rows h (from + 3 * (i + 1) + 1) (n - (i + 1))
-  unfolding rows
-  rows_next i k =
-      let p : from + 3 * (i + 1) + 1 ≡ from + 3 * i + 1 + 3 = omega arith in
-      let q : n - i ≡ suc (n - (i + 1)) = omega arith in
-      rw (p, q)
+pub held-long : (from : ℕ) (h : List ℕ) → length (held_from from h) ≡ get_or h from 0
+unfolding held_from
+held-long from h = rows_long h (from + 1) (get_or h from 0)
 
-  -- none is left
-  pub rows_none : (i : ℕ) → n ≤ i → rows h (from + 3 * i + 1) (n - i) ≡ []
-  unfolding rows
-  rows_none i k =
-      let q : n - i ≡ 0 = omega arith in
-      rw q
+pub shelf-long : (s : Shelf) (h : List ℕ) → length (held_on s h) ≡ get_or h (shelf_place s) 0
+shelf-long Day h = held-long 0 h
+shelf-long Month h = held-long 187 h
 
-pub row-held : (h : List ℕ) (from n k : ℕ) → k < n → Held (record_at h (from + 3 * k + 1)) ≡ fetched (rows h (from + 1) n) k
-unfolding rows fetched
-row-held h from zero k p = absurd (omega arith)
-row-held h from (suc n) zero p =
-    let e : from + 3 * 0 + 1 ≡ from + 1 = omega arith in
-    rw e
-row-held h from (suc n) (suc k) p =
-    let e : from + 3 * suc k + 1 ≡ from + 3 + 3 * k + 1 = omega arith in
-    let f : from + 1 + 3 ≡ from + 3 + 1 = omega arith in
-    rw (e, f) (row-held h (from + 3) n k (omega arith))
-
-pub row-not : (h : List ℕ) (at n k : ℕ) → n ≤ k → Refused 25 ≡ fetched (rows h at n) k
-unfolding rows fetched
-row-not h at zero k p = refl
-row-not h at (suc n) zero p = absurd (omega arith)
-row-not h at (suc n) (suc k) p = row-not h (at + 3) n k (omega arith)
-
--- record k of a list of records
-pub row_at : (h : List ℕ) (from n k : ℕ) → k < n → record_at h (from + 3 * k + 1) ≡ get_or (rows h (from + 1) n) k no_record
+-- record k begins three words behind the one before it
+row_at : (h : List ℕ) (from n k : ℕ) → k < n → record_at h (from + 3 * k + 1) ≡ get_or (rows h (from + 1) n) k no_record
 unfolding rows
 row_at h from zero k p = absurd (omega arith)
-row_at h from (suc n) zero p =
-    let e : from + 3 * 0 + 1 ≡ from + 1 = omega arith in
-    rw e
+row_at h from (suc n) zero p = let e : from + 3 * 0 + 1 ≡ from + 1 = omega arith in rw e
 row_at h from (suc n) (suc k) p =
     let e : from + 3 * suc k + 1 ≡ from + 3 + 3 * k + 1 = omega arith in
     let f : from + 1 + 3 ≡ from + 3 + 1 = omega arith in
     rw (e, f) (row_at h (from + 3) n k (omega arith))
+
+pub shelf-at : (s : Shelf) (h : List ℕ) (k : ℕ)
+    → k < length (held_on s h)
+    → record_at h (shelf_place s + 3 * k + 1) ≡ get_or (held_on s h) k no_record
+unfolding held_from
+shelf-at Day h k p = row_at h 0 (get_or h 0 0) k (omega (arith, held-long 0 h))
+shelf-at Month h k p = row_at h 187 (get_or h 187 0) k (omega (arith, held-long 187 h))
+
+-- record k of a list: it is there, or the list is no longer than k
+pub fetched-held : (l : List Record) (k : ℕ) → k < length l → fetched l k ≡ Ok (get_or l k no_record)
+unfolding fetched
+fetched-held [] k p = absurd (omega arith)
+fetched-held (r ∷ l) zero p = refl
+fetched-held (r ∷ l) (suc k) p = fetched-held l k (omega arith)
+
+pub fetched-not : (l : List Record) (k : ℕ) → length l ≤ k → fetched l k ≡ Err NotHeld
+unfolding fetched
+fetched-not [] k p = refl
+fetched-not (r ∷ l) zero p = absurd (omega arith)
+fetched-not (r ∷ l) (suc k) p = fetched-not l k (omega arith)

@@ -6,6 +6,8 @@ use Rattle.units.specs.Money.{money}
 use Rattle.records.specs.declared.Record.{Record}
 use Rattle.records.specs.declared.Tally.{Tally}
 use Rattle.records.specs.declared.Periods.{Periods}
+use Rattle.records.specs.declared.Shelf.{Shelf}
+use Rattle.records.specs.declared.Shelf.TheVariants.{Day, Month}
 
 -- "a record (date, volume, charge, closing balance)"
 abbrev pub record_of : ℕ → Tally → Millionths → Record
@@ -27,10 +29,18 @@ day_limit = 62
 abbrev pub month_limit : ℕ
 month_limit = 120
 
+abbrev pub shelf_limit : Shelf → ℕ
+shelf_limit Day = day_limit
+shelf_limit Month = month_limit
+
 -- the records that are held
 pub record Held : Type 0 where
   pub days : List Record
   pub months : List Record
+
+abbrev pub records_of : Shelf → Held → List Record
+records_of Day h = h.days
+records_of Month h = h.months
 
 abbrev pub none_held : Held
 none_held = record { days = []; months = [] }

@@ -1,11 +1,13 @@
 -- How numbers hold the records: the count of days, three words for each of 62 days, the count of months, three words for each of 120
 -- months, the newest first. The words of a record: date and volume * 2^32, charge, closing balance in two's complement. Words behind the
 -- records that are counted mean nothing.
-use Rattle.std.specs.Prelude.{cond, List, [], ◌∷◌, ℕ, zero, suc, ◌+◌, ◌-◌, ◌*◌, ◌/◌, ◌%◌, ◌^◌, ltb, get_or, replicate, ℤ, pos, negsuc}
+use Rattle.std.specs.Prelude.{cond, List, [], ◌∷◌, ℕ, zero, suc, ◌+◌, ◌-◌, ◌*◌, ◌/◌, ◌%◌, ◌^◌, ◌≤◌, ltb, length, get_or, replicate, ℤ, pos, negsuc}
 use Rattle.units.specs.Volume.{volume, charge}
 use Rattle.units.specs.Money.{money}
 use Rattle.records.specs.declared.Record.{Record}
-use Rattle.records.specs.Records.{Held}
+use Rattle.records.specs.declared.Shelf.{Shelf}
+use Rattle.records.specs.declared.Shelf.TheVariants.{Day, Month}
+use Rattle.records.specs.Records.{Held, records_of, shelf_limit}
 
 -- where the counts stand, and how many words there are
 abbrev pub day_place : ℕ
@@ -13,6 +15,10 @@ day_place = 0
 
 abbrev pub month_place : ℕ
 month_place = 187
+
+abbrev pub shelf_place : Shelf → ℕ
+shelf_place Day = day_place
+shelf_place Month = month_place
 
 abbrev pub word_count : ℕ
 word_count = 548
@@ -49,6 +55,13 @@ held_from from h = rows h (from + 1) (get_or h from 0)
 -- the records that the words hold
 abbrev pub held_of : List ℕ → Held
 held_of h = record { days = held_from day_place h; months = held_from month_place h }
+
+-- those on a shelf, and that there are no more than it has room for
+abbrev pub held_on : Shelf → List ℕ → List Record
+held_on s h = records_of s (held_of h)
+
+abbrev pub CountFits : Shelf → List ℕ → Type 0
+CountFits s h = length (held_on s h) ≤ shelf_limit s
 
 -- the words of a fresh meter: no record held
 unfoldable pub no_words : List ℕ

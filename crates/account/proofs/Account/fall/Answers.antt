@@ -8,14 +8,14 @@ pub returns : goal.returns
 unfolding fall_valve fall_codes marks note_all
 returns c =
     rw (
-      c.strike.ensures,
+      c.strike-4.ensures,
       c.sinks.ensures,
-      c.strike-f-3.ensures,
-      c.crosses.ensures,
-      c.strike-f-2.ensures,
+      c.strike-3.ensures,
+      c.crosses-zero.ensures,
+      c.strike-2.ensures,
       c.crosses-two.ensures,
       c.yuan-2.ensures,
-      c.strike-f.ensures,
+      c.strike.ensures,
       c.crosses-one.ensures,
       c.yuan.ensures,
     )

@@ -1,26 +1,42 @@
--- The next record is the first of those that are left: a bad one decides, and a good one is passed.
-use Rattle.std.proofs.Common.{sym, ap, ◌∙◌, arith}
-use Rattle.records.specs.Bounds.{records_good}
-use Rattle.records.proofs.Rows.{rows_all, rows_next, rows_none}
+-- `all` over the places is true where every record is good, and false where one is not.
+use Rattle.std.proofs.Common.{◌≡◌, ℕ, ◌+◌, ◌<◌, Bool, true, false, List, length, get_or, refl, sym, arith, rules}
+use Rattle.std.specs.Bool.{MatchBool}
+use Rattle.std.specs.List.{AllWithin, HoldsAt, range_with_len}
+use Rattle.std.proofs.lemmas.Iterator.{cases_from_all, YieldsList-from_range}
+use Rattle.std.proofs.lemmas.List.FromFn.{length-range_with_len, get_or-range_with_len}
+use Rattle.std.proofs.lemmas.List.Recursion.{and_from_places, and_fails_at}
+use borrow.Author.Tests.{tests}
+use Rattle.records.specs.declared.Record.{Record}
+use Rattle.records.specs.Bounds.{record_good, records_good}
+use Rattle.records.specs.Records.{no_record}
+use Rattle.records.specs.Words.{held_on}
 use Rattle.records.proofs.held.rows_good.Goals as goal
 
-pub loop-i-init : goal.loop-i-init
-loop-i-init c = record { within = omega arith; left_decide = ap (records_good c.args.top.0 c.args.total.0) (rows_all _ _ _) }
+module _ (top total : ℕ) (l : List Record) where
+  abbrev At : Bool → ℕ → Type 0
+  At answer k = record_good top total (get_or l k no_record) ≡ answer
 
-pub returns-then-not-is_good : goal.returns-then-not-is_good
-unfolding records_good
-returns-then-not-is_good c =
-    let bad = sym c.is_good.ensures ∙ c.if-not-is_good.true in
-    sym (c.loop-i.invariant.left_decide ∙ rw (rows_next _ _ _ _ c.loop-i-test.true, ← c.record_at.ensures, bad))
-
-pub loop-i-preserved : goal.loop-i-preserved
-unfolding records_good
-loop-i-preserved c =
-    let good = sym c.is_good.ensures ∙ c.if-not-is_good.false in record {
-      within = omega arith;
-      left_decide = c.loop-i.invariant.left_decide ∙ rw (rows_next _ _ _ _ c.loop-i-test.true, ← c.record_at.ensures, good);
-    }
+  by_places : (n : ℕ) (answer : Bool)
+      → n ≡ length l
+      → MatchBool answer (AllWithin (At true) (range_with_len 0 n) 0 (length (range_with_len 0 n)))
+      ((k : ℕ) × (k < length (range_with_len 0 n)) × HoldsAt (At false) (range_with_len 0 n) k)
+      → answer ≡ records_good top total l
+  unfolding records_good
+  by_places n true e h =
+      let long : length (range_with_len 0 n) ≡ n = length-range_with_len 0 n in
+      sym (and_from_places (records_good top total) (record_good top total) refl (λ r rs. refl) l no_record
+      (λ k p. let z : 0 + k ≡ k = omega arith in rw (get_or-range_with_len 0 n k 0 (omega arith), z) at (h k 0 (omega arith) (omega arith))))
+  by_places n false e h =
+      let long : length (range_with_len 0 n) ≡ n = length-range_with_len 0 n in
+      let z : 0 + h.0 ≡ h.0 = omega arith in
+      sym (and_fails_at (records_good top total) (record_good top total) refl (λ r rs. refl) l h.0 no_record (omega (arith, h.1))
+      (rw (get_or-range_with_len 0 n h.0 0 (omega (arith, h.1)), z) at (h.2 0)))
 
 pub returns : goal.returns
-unfolding records_good
-returns c = sym (c.loop-i.invariant.left_decide ∙ rw (rows_none _ _ _ _ c.loop-i-test.false))
+returns c =
+    let top = c.args.top.0 in
+    let total = c.args.total.0 in
+    let l = held_on c.args.shelf c.args.h.now in
+    by_places top total l c.count.result c.all.result c.count.ensures
+    (cases_from_all _ _ _ (At top total l true) (At top total l false) c.all.ensures.ran (YieldsList-from_range 0 c.count.result c.count.result (cc) (omega arith))
+    (λ k q p. search (rules, tests)) (λ k q p. search (rules, tests)))

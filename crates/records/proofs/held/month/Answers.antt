@@ -1,7 +1,0 @@
--- No more are counted than the words hold.
-use Rattle.std.proofs.Common.{arith}
-use Rattle.records.proofs.AfterTurn.{held-long}
-use Rattle.records.proofs.held.month.Goals as goal
-
-pub at-requires : goal.at-requires
-at-requires c = omega (arith, held-long 187 c.args.h.now)
