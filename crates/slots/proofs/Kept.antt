@@ -6,24 +6,28 @@ use Prim.Native.Nat.{ℕ, ◌+◌, ◌*◌, ◌≤◌}
 use native.Mathlib.Omega.{arith}
 use lib.Dec.{eqb}
 use borrow.Author.Tests.{leb-true, le-leb, eqb-true, eq-eqb, not-true}
-use Rattle.answer.specs.declared.Answer.TheVariants.{Accepted}
-use Rattle.answer.proofs.Tests.{cases, split, and_left, or_left, or_right, neither, need-both, next_both}
+use Rattle.std.specs.Prelude.{Result, Ok, Err}
+use Rattle.answer.specs.declared.Refusal.{Refusal}
+use Rattle.answer.specs.declared.Refusal.TheVariants.{Slot as NoSlot, InForce, Overlap}
+use Rattle.answer.proofs.Tests.{cases, split, and_left, or_left, or_right, neither, need-both}
 use Rattle.plan.specs.declared.Plan.{Plan}
-use Rattle.record.specs.declared.Reading.{Reading}
+use Rattle.record.specs.Record.{plan_in}
+use Rattle.record.specs.Choice.{of_plan}
 use Rattle.slots.specs.declared.Slot.{Slot}
 use Rattle.slots.specs.declared.Slots.{Slots}
+use Rattle.slots.specs.declared.SlotName.{SlotName}
+use Rattle.slots.specs.declared.SlotName.TheVariants.{One, Two}
 use Rattle.slots.specs.World.{World}
 use Rattle.slots.specs.Laws.{Laws}
 use Rattle.slots.specs.Slots.{slot_at, in_slot, plan_on, slot_on, some_force, charge_on, fee, used, keeps, usage_on, slots_turned}
-use Rattle.slots.specs.Load.{other_at, holding, meets_slot, load_refusal, loaded}
-use Rattle.slots.specs.Bounds.{slot_good, apart, slots_good, idle_good, is_fresh_slots}
-use Rattle.slots.proofs.InForce.{force-is, no-plan, plan-one, plan-two, plan-none}
+use Rattle.slots.specs.Load.{slot_named, other_at, holding, meets_slot, room_refusal, load_refusal, loaded}
+use Rattle.slots.specs.Bounds.{slot_good, apart, slots_good, idle_good, is_fresh_slots, BothGood}
+use Rattle.slots.proofs.InForce.{force_is, no-plan, plan-one, plan-two, plan-none}
 
 module _ (w : World) where
   -- the bounds in parts
   pub record Apart (s : Slots) (d total : ℕ) : Type 0 where
-    pub one : slot_good w s.one ≡ true
-    pub two : slot_good w s.two ≡ true
+    pub good : BothGood w s
     pub apart : apart w s.one s.two d ≡ true
     pub usage : s.usage.0 ≤ total
 
@@ -33,11 +37,11 @@ module _ (w : World) where
       let a = split h in
       let b = split a.1 in
       let c = split b.1 in
-      record { one = a.0; two = b.0; apart = c.0; usage = leb-true _ _ c.1 }
+      record { good = record { one = a.0; two = b.0 }; apart = c.0; usage = leb-true _ _ c.1 }
 
   pub slots-out : (s : Slots) (d total : ℕ) → Apart s d total → slots_good w s d total ≡ true
   unfolding slots_good
-  slots-out s d total a = rw (a.one, a.two, a.apart, le-leb _ _ a.usage)
+  slots-out s d total a = rw (a.good.one, a.good.two, a.apart, le-leb _ _ a.usage)
 
   -- with no plan in force the usage is 0 and the valve closed
   pub idle-in : (s : Slots) (opened : Bool) (d : ℕ) → idle_good w s opened d ≡ true → some_force w s d ≡ false → (s.usage.0 ≡ 0) × (opened ≡ false)
@@ -50,13 +54,13 @@ module _ (w : World) where
 
   -- neither slot's plan is in force
   pub none-one : (s : Slots) (d : ℕ) → some_force w s d ≡ false → in_slot w s.one d ≡ false
-  none-one s d h = or_left _ (in_slot w s.two d) (sym (force-is w s d) ∙ h)
+  none-one s d h = or_left _ (in_slot w s.two d) (sym (force_is w s d) ∙ h)
 
   pub none-two : (s : Slots) (d : ℕ) → some_force w s d ≡ false → in_slot w s.two d ≡ false
-  none-two s d h = or_right (in_slot w s.one d) _ (sym (force-is w s d) ∙ h)
+  none-two s d h = or_right (in_slot w s.one d) _ (sym (force_is w s d) ∙ h)
 
   pub both-none : (s : Slots) (d : ℕ) → in_slot w s.one d ≡ false → in_slot w s.two d ≡ false → some_force w s d ≡ false
-  both-none s d h i = force-is w s d ∙ neither _ _ h i
+  both-none s d h i = force_is w s d ∙ neither _ _ h i
 
   -- fresh slots
   pub record Unloaded (s : Slots) : Type 0 where
@@ -98,22 +102,32 @@ module _ (w : World) where
 
   pub slots-used : (s : Slots) (b : Bool) (d n total : ℕ) → Apart s d total → Apart (used s b n) d (total + n)
   unfolding used
-  slots-used s b d n total a = record { one = a.one; two = a.two; apart = a.apart; usage = used_low b s.usage.0 n total a.usage }
+  slots-used s b d n total a = record { good = record { one = a.good.one; two = a.good.two }; apart = a.apart; usage = used_low b s.usage.0 n total a.usage }
 
   -- a load: the slot's old plan is not in force on the date, and the new one and the other slot's never both from it on
-  pub record Loads (s : Slots) (d k : ℕ) (r : Reading) : Type 0 where
-    pub slot : (eqb k 1 || eqb k 2) ≡ true
-    pub read : r.answer ≡ Accepted
+  pub record Room (s : Slots) (d : ℕ) (k : SlotName) (p : Plan) : Type 0 where
     pub free : in_slot w (slot_at s k) d ≡ false
-    pub alone : meets_slot w (other_at s k) r.plan d ≡ false
+    pub alone : meets_slot w (other_at s k) p d ≡ false
 
-  pub loads : (s : Slots) (d k : ℕ) (r : Reading) → load_refusal w s d k r ≡ Accepted → Loads s d k r
+  pub room : (s : Slots) (d : ℕ) (k : SlotName) (p : Plan) → room_refusal w s d k p ≡ Ok tt → Room s d k p
+  unfolding room_refusal
+  room s d k p h =
+      let a = need-both InForce h in
+      record { free = not-true _ a.0; alone = not-true _ (need-both Overlap {a = Ok tt} a.1).0 }
+
+  -- of a slot by its number and of a plan that was read
+  pub record Loads (s : Slots) (d k : ℕ) (r : Result Plan Refusal) : Type 0 where
+    pub slot : (eqb k 1 || eqb k 2) ≡ true
+    pub read : r ≡ Ok (plan_in r)
+    pub room : Room s d (slot_named k) (plan_in r)
+
+  pub loads : (s : Slots) (d k : ℕ) (r : Result Plan Refusal) → load_refusal w s d k r ≡ Ok tt → Loads s d k r
   unfolding load_refusal
-  loads s d k r h =
-      let n = need-both {b = eqb k 1 || eqb k 2} 10 h in
-      let a = next_both n.1 in
-      let b = need-both 11 a.1 in
-      record { slot = n.0; read = a.0; free = not-true _ b.0; alone = not-true _ (need-both 12 {a = Accepted} b.1).0 }
+  loads s d k r h = let n = need-both {b = eqb k 1 || eqb k 2} NoSlot h in go r n.1 n.0
+    where
+      go : (r : Result Plan Refusal) → of_plan r (room_refusal w s d (slot_named k)) ≡ Ok tt → (eqb k 1 || eqb k 2) ≡ true → Loads s d k r
+      go (Ok p) h n = record { slot = n; read = refl; room = room s d (slot_named k) p h }
+      go (Err n) h _ = cc
 
 module _ (w : World) (L : Laws w) where
   -- the turn
@@ -132,8 +146,7 @@ module _ (w : World) (L : Laws w) where
   pub slots-turned : (s : Slots) (d e total : ℕ) → d ≤ e → Apart w s d total → Apart w (slots_turned w s d e) e total
   unfolding slots_turned usage_on
   slots-turned s d e total h a = record {
-    one = a.one;
-    two = a.two;
+    good = record { one = a.good.one; two = a.good.two };
     apart = apart-later s.one s.two d e h a.apart;
     usage = kept_low (keeps w s d e) s.usage.0 total a.usage;
   }
@@ -146,9 +159,9 @@ module _ (w : World) (L : Laws w) where
   pub fee-cap : (s : Slots) (d total n : ℕ) → Apart w s d total → fee w s d n ≤ n * 99999999
   unfolding fee charge_on
   fee-cap s d total n a = cases (in_slot w s.one d)
-      (λ i. rw (plan-one w s d i) (omega (arith, slot-cap s.one d s.usage.0 n a.one i)))
+      (λ i. rw (plan-one w s d i) (omega (arith, slot-cap s.one d s.usage.0 n a.good.one i)))
       (λ i. cases (in_slot w s.two d)
-      (λ j. rw (plan-two w s d i j) (omega (arith, slot-cap s.two d s.usage.0 n a.two j)))
+      (λ j. rw (plan-two w s d i j) (omega (arith, slot-cap s.two d s.usage.0 n a.good.two j)))
       (λ j. rw (plan-none w s d i j) (omega arith)))
 
   -- a load
@@ -164,15 +177,18 @@ module _ (w : World) (L : Laws w) where
   unfolding apart
   apart-second s p d h = rw h
 
-  pub slots-loaded : (s : Slots) (d total k : ℕ) (r : Reading) → Loads w s d k r → w.good r.plan ≡ true → Apart w s d total → Apart w (loaded s k r.plan) d total
+  pub slots-loaded :
+      (s : Slots) (d total : ℕ) (k : SlotName) (p : Plan) → Room w s d k p → w.good p ≡ true → Apart w s d total →
+      Apart w (loaded s k p) d total
   unfolding loaded
-  slots-loaded s d total k r l y a = cases (eqb k 1)
-      (λ e. rw e (record { one = slot_held r.plan y; two = a.two; apart = apart-first s.two r.plan d (rw e at l.alone); usage = a.usage }))
-      (λ e. rw e (record { one = a.one; two = slot_held r.plan y; apart = apart-second s.one r.plan d (rw e at l.alone); usage = a.usage }))
+  slots-loaded s d total One p l y a =
+      record { good = record { one = slot_held p y; two = a.good.two }; apart = apart-first s.two p d l.alone; usage = a.usage }
+  slots-loaded s d total Two p l y a =
+      record { good = record { one = a.good.one; two = slot_held p y }; apart = apart-second s.one p d l.alone; usage = a.usage }
 
   -- none is in force after it only where none was before it
-  pub none-loaded : (s : Slots) (d k : ℕ) (r : Reading) → Loads w s d k r → some_force w (loaded s k r.plan) d ≡ false → some_force w s d ≡ false
+  pub none-loaded :
+      (s : Slots) (d : ℕ) (k : SlotName) (p : Plan) → Room w s d k p → some_force w (loaded s k p) d ≡ false → some_force w s d ≡ false
   unfolding loaded
-  none-loaded s d k r l f = cases (eqb k 1)
-      (λ e. both-none w s d (rw e at l.free) (none-two w _ d (rw e at f)))
-      (λ e. both-none w s d (none-one w _ d (rw e at f)) (rw e at l.free))
+  none-loaded s d One p l f = both-none w s d l.free (none-two w _ d f)
+  none-loaded s d Two p l f = both-none w s d (none-one w _ d f) l.free

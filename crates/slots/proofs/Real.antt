@@ -8,6 +8,9 @@ use Rattle.slots.specs.World.{real}
 use Rattle.slots.specs.Laws.{Laws}
 use Rattle.record.proofs.Accepted.{read-good}
 
+-- what a charge needs of them
+pub ruleset rising = (charge-rises)
+
 pub real-laws : Laws real
 unfolding is_date
 real-laws = record {

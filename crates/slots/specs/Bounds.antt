@@ -27,11 +27,15 @@ idle_good w s opened d = some_force w s d || (eqb s.usage.0 0 && not opened)
 unfoldable pub is_fresh_slots : Slots → Bool
 is_fresh_slots s = not s.one.loaded && (not s.two.loaded && eqb s.usage.0 0)
 
+-- both slots good
+pub record BothGood (w : World) (s : Slots) : Type 0 where
+  pub one : slot_good w s.one ≡ true
+  pub two : slot_good w s.two ≡ true
+
 -- what the turn from one date to a later one may rely on: both slots good and apart, the slot in force on each of the two dates, and that
 -- they are dates
 pub record MayTurn (s : Slots) (was is : Force) : Type 0 where
-  pub one : slot_good real s.one ≡ true
-  pub two : slot_good real s.two ≡ true
+  pub good : BothGood real s
   pub apart : apart real s.one s.two was.date ≡ true
   pub old : was ≡ force_on real s was.date
   pub new : is ≡ force_on real s is.date

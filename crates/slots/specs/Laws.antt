@@ -1,8 +1,7 @@
 -- The laws of the calendar, of plans and of the step charge on which demand 3 rests.
-use Rattle.std.specs.Prelude.{◌≡◌, true, false, List, ℕ, ◌+◌, ◌*◌, ◌≤◌}
-use Rattle.answer.specs.declared.Answer.TheVariants.{Accepted}
+use Rattle.std.specs.Prelude.{◌≡◌, true, false, List, ℕ, ◌+◌, ◌*◌, ◌≤◌, is_ok}
 use Rattle.plan.specs.declared.Plan.{Plan}
-use Rattle.record.specs.Record.{read_of}
+use Rattle.record.specs.Record.{read_of, plan_in}
 use Rattle.slots.specs.World.{World}
 
 -- what its first half rests on
@@ -28,4 +27,4 @@ pub record Laws (w : World) : Type 0 where
   -- 0 is no date, so a clock at 0 is no clock
   pub no-date : w.date 0 ≡ false
   -- a plan that was read is one that refusals 2 to 7 let pass
-  pub read-good : (bytes : List ℕ) → (read_of bytes).answer ≡ Accepted → w.good (read_of bytes).plan ≡ true
+  pub read-good : (bytes : List ℕ) → is_ok (read_of bytes) ≡ true → w.good (plan_in (read_of bytes)) ≡ true

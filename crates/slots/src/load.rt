@@ -1,57 +1,31 @@
 // A plan loaded into a slot: its refusals and its effect.
-ghost use Rattle.std.specs.Prelude.{◌≡◌, ◌||◌, eqb};
+ghost use Rattle.std.specs.Prelude.{◌≡◌};
 ghost use Rattle.slots.specs.World.{real};
-ghost use Rattle.slots.specs.Load.{other_at, load_refusal, loaded};
+ghost use Rattle.slots.specs.Load.{room_refusal, loaded};
 
-use crate::{Slot, Slots, chosen};
-use answer::Answer;
+use crate::{Slot, SlotName, Slots};
+use answer::{Refusal, need};
 use plan::Plan;
-use record::Reading;
-
-// Whether there is a slot k.
-fn is_slot(k: u32) -> bool
-    ensures { result ≡ (eqb k 1 || eqb k 2) }
-{
-    (k == 1) | (k == 2)
-}
 
 impl Slots {
-    fn other_at(self, k: u32) -> Slot
-        ensures { result ≡ other_at self k }
+    // Refusals 11 and 12 of a load on the date, in their order.
+    #[tactic(auto, unfolding(crate::specs::Load::room_refusal))]
+    pub fn vet(self, d: u32, slot: SlotName, plan: Plan) -> Result<(), Refusal>
+        ensures { result ≡ room_refusal real self d slot plan }
     {
-        chosen(k, self.two, self.one)
+        need(!self.slot_at(slot).in_force(d), Refusal::InForce)?;
+        need(!self.other_at(slot).meets(plan, d), Refusal::Overlap)
     }
 
-    // Refusals 10, 1 to 7, 11 and 12 of a load on the date, in their order.
-    #[tactic(auto, unfolding(crate::specs::Load::load_refusal))]
-    pub fn vet(self, d: u32, k: u32, r: Reading) -> Answer
-        ensures { result ≡ load_refusal real self d k r }
-    {
-        let a = r.answer;
-        let busy = self.slot_at(k).in_force(d);
-        let meets = self.other_at(k).meets(r.plan, d);
-        Answer::need(
-            is_slot(k),
-            10,
-            a.next(Answer::need(!busy, 11, Answer::need(!meets, 12, Answer::Accepted))),
-        )
-    }
-
-    // The plan put into slot k.
+    // The plan put into the slot.
     #[tactic(auto, unfolding(crate::specs::Load::loaded))]
-    pub fn loaded(self, k: u32, p: Plan) -> Slots
-        ensures { result ≡ loaded self k p }
+    pub fn loaded(self, slot: SlotName, plan: Plan) -> Slots
+        ensures { result ≡ loaded self slot plan }
     {
-        let held = Slot {
-            loaded: true,
-            plan: p,
-        };
-        let mut next = self;
-        if k == 1 {
-            next.one = held;
-            return next;
+        let held = Slot { loaded: true, plan };
+        match slot {
+            SlotName::One => Slots { one: held, ..self },
+            SlotName::Two => Slots { two: held, ..self },
         }
-        next.two = held;
-        next
     }
 }

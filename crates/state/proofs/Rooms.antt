@@ -2,11 +2,12 @@
 use mathlib.Core.Path.{◌≡◌, refl, ap, ◌∙◌}
 use mathlib.Core.Bool.{true, false, ◌||◌}
 use mathlib.Core.List.{List, []}
-use Prim.Native.Nat.{ℕ, ◌+◌, ◌*◌, ◌^◌, ◌≤◌, ◌<◌}
+use Prim.Native.Nat.{ℕ, ◌+◌, ◌^◌, ◌≤◌, ◌<◌}
 use native.Mathlib.Omega.{arith}
 use lib.Dec.{leb, ltb, eqb}
 use Rattle.units.specs.Money.{Small, highest_balance}
-use Rattle.answer.specs.declared.Answer.TheVariants.{Accepted}
+use Rattle.std.specs.Prelude.{Ok}
+use Rattle.answer.specs.declared.Refusal.TheVariants.{Pulses, Total}
 use Rattle.answer.proofs.Tests.{cases, never, split, need-both}
 use borrow.Author.Tests.{le-ltb, leb-true, eq-eqb, ne_eqb, eqb-false}
 use Rattle.calendar.specs.declared.Stamp.{Stamp}
@@ -14,10 +15,11 @@ use Rattle.calendar.specs.Date.{is_date}
 use Rattle.calendar.proofs.Stamps.{not-before-date}
 use Rattle.account.specs.Account.{recharge_refusal}
 use Rattle.account.proofs.Kept.{account-room, recharge-small}
+use Rattle.records.specs.Turn.{HasRoom}
 use Rattle.records.proofs.Room.{room}
 use Rattle.slots.specs.World.{real}
 use Rattle.slots.specs.Slots.{some_force, slot_on, force_on, fee, slots_turned}
-use Rattle.slots.specs.Bounds.{slot_good, apart}
+use Rattle.slots.specs.Bounds.{apart, BothGood}
 use Rattle.slots.proofs.Kept.{slots-in, no-force, fee-cap}
 use Rattle.slots.proofs.Real.{real-laws}
 use Rattle.records.specs.Records.{none_held}
@@ -36,17 +38,14 @@ use Rattle.state.proofs.Admitted.{stamp-passed}
 pub state : (m : State) → bounded real m ≡ true → Parts real m
 state m h = bounded-state real m h
 
-pub turned-state : (m : State) (s : Stamp) → stamp_refusal real m s ≡ Accepted → Parts real (turn real m s)
+pub turned-state : (m : State) (s : Stamp) → stamp_refusal real m s ≡ Ok tt → Parts real (turn real m s)
 turned-state m s h =
     let a = stamp-passed real m s h in
     turn-state real real-laws m s (not-before-date m.clock s a.2) (state m a.0)
 
 -- the slots of a meter within its bounds
-pub slot-one : (m : State) → Parts real m → slot_good real m.slots.one ≡ true
-slot-one m s = (slots-in real m.slots m.clock.date m.volumes.total.0 s.slots).one
-
-pub slot-two : (m : State) → Parts real m → slot_good real m.slots.two ≡ true
-slot-two m s = (slots-in real m.slots m.clock.date m.volumes.total.0 s.slots).two
+pub both-good : (m : State) → Parts real m → BothGood real m.slots
+both-good m s = (slots-in real m.slots m.clock.date m.volumes.total.0 s.slots).good
 
 pub slots_apart : (m : State) → Parts real m → apart real m.slots.one m.slots.two m.clock.date ≡ true
 slots_apart m s = (slots-in real m.slots m.clock.date m.volumes.total.0 s.slots).apart
@@ -67,18 +66,14 @@ date-some m h i = cases (no_clock m)
 
 -- a pulse call
 pub record PulseRoom (m : State) (n : ℕ) : Type 0 where
-  pub one : slot_good real m.slots.one ≡ true
-  pub two : slot_good real m.slots.two ≡ true
+  pub good : BothGood real m.slots
   pub usage : m.slots.usage.0 + n < 2 ^ 32
   pub small : Small m.account.balance.0
-  pub cost : fee real m.slots m.clock.date n ≤ n * 99999999
-  pub few : n ≤ 99999999
+  pub cost : fee real m.slots m.clock.date n < 2 ^ 62
   pub total : m.volumes.total.0 + n < 2 ^ 32
   pub unpriced : m.volumes.unpriced.0 + n < 2 ^ 32
-  pub day : m.periods.day.volume.0 + n < 2 ^ 32
-  pub month : m.periods.month.volume.0 + n < 2 ^ 32
-  pub day_charge : m.periods.day.charge.0 ≤ 99999999 * 99999999
-  pub month_charge : m.periods.month.charge.0 ≤ 99999999 * 99999999
+  pub day : HasRoom m.periods.day n (fee real m.slots m.clock.date n)
+  pub month : HasRoom m.periods.month n (fee real m.slots m.clock.date n)
 
 pub pulse-room : (m : State) (n : ℕ) → state_good real m ≡ true → m.volumes.total.0 + n ≤ 99999999 → PulseRoom m n
 pulse-room m n h t =
@@ -86,27 +81,24 @@ pulse-room m n h t =
     let a = slots-in real m.slots m.clock.date m.volumes.total.0 s.slots in
     let c = account-room m.account m.volumes.total.0 s.account (total-low real m s) in
     let j = room m.volumes.total.0 m.periods s.periods in
+    let cost = fee-cap real real-laws m.slots m.clock.date m.volumes.total.0 n a in
     record {
-      one = a.one;
-      two = a.two;
+      good = a.good;
       usage = omega (arith, a.usage);
       small = c.small;
-      cost = fee-cap real real-laws m.slots m.clock.date m.volumes.total.0 n a;
-      few = omega arith;
+      cost = omega (arith, cost);
       total = omega arith;
       unpriced = omega (arith, (total-in m.volumes s.volumes).1);
-      day = omega (arith, j.day_volume);
-      month = omega (arith, j.month_volume);
-      day_charge = omega (arith, j.day_charge);
-      month_charge = omega (arith, j.month_charge);
+      day = record { volume = omega (arith, j.day_volume); charge = omega (arith, cost, j.day_charge) };
+      month = record { volume = omega (arith, j.month_volume); charge = omega (arith, cost, j.month_charge) };
     }
 
 -- after an accepted test of the count, on the turned meter
-pub pulses-fit : (m : State) (s : Stamp) (n : ℕ) → pulse_refusal m.volumes n ≡ Accepted → (turn real m s).volumes.total.0 + n ≤ 99999999
+pub pulses-fit : (m : State) (s : Stamp) (n : ℕ) → pulse_refusal m.volumes n ≡ Ok tt → (turn real m s).volumes.total.0 + n ≤ 99999999
 unfolding pulse_refusal
-pulses-fit m s n h = rw (turn-volumes real m s) (leb-true _ _ (need-both 14 {a = Accepted} (need-both {b = leb n most_pulses} 13 h).1).0)
+pulses-fit m s n h = rw (turn-volumes real m s) (leb-true _ _ (need-both Total {a = Ok tt} (need-both {b = leb n most_pulses} Pulses h).1).0)
 
-pub turned-good : (m : State) (s : Stamp) → stamp_refusal real m s ≡ Accepted → state_good real (turn real m s) ≡ true
+pub turned-good : (m : State) (s : Stamp) → stamp_refusal real m s ≡ Ok tt → state_good real (turn real m s) ≡ true
 turned-good m s h = state-out real (turn real m s) (turned-state m s h)
 
 -- the registers after a turn, whether the day turned or not: a stamp of the clock's own date turns no day
@@ -150,7 +142,7 @@ unfolding turn turned_to slots_turned slot_on
 later-force m s = cases (ltb m.clock.date s.date) (λ h. rw h) (λ h. rw h)
 
 pub same-force :
-    (m : State) (s : Stamp) → stamp_refusal real m s ≡ Accepted → s.date ≤ m.clock.date →
+    (m : State) (s : Stamp) → stamp_refusal real m s ≡ Ok tt → s.date ≤ m.clock.date →
     force_on real m.slots m.clock.date ≡ force_on real (turn real m s).slots s.date
 same-force m s h l =
     let e : m.clock.date ≡ s.date = omega (arith, not-before-date m.clock s (stamp-passed real m s h).2) in
@@ -163,7 +155,7 @@ small-balance m s = (account-room m.account m.volumes.total.0 s.account (total-l
 pub low-serial : (m : State) → Parts real m → m.account.serial ≤ 65535
 low-serial m s = (account-room m.account m.volumes.total.0 s.account (total-low real m s)).serial
 
-pub small-amount : (m : State) (amount serial : ℕ) → Parts real m → recharge_refusal m.account amount serial ≡ Accepted → amount ≤ 2 ^ 55
+pub small-amount : (m : State) (amount serial : ℕ) → Parts real m → recharge_refusal m.account amount serial ≡ Ok tt → amount ≤ 2 ^ 55
 small-amount m amount serial s h = recharge-small m.account m.volumes.total.0 amount serial s.account (total-low real m s) h
 
 -- the station's two commands

@@ -10,11 +10,13 @@ use Rattle.answer.proofs.Tests.{cases, and-false}
 use Rattle.calendar.specs.declared.Stamp.{Stamp}
 use Rattle.account.proofs.Kept.{account-room}
 use Rattle.records.proofs.Kept.{opened-good, closed-good}
-use Rattle.record.specs.declared.Reading.{Reading}
+use Rattle.std.specs.Prelude.{Result}
+use Rattle.answer.specs.declared.Refusal.{Refusal}
+use Rattle.plan.specs.declared.Plan.{Plan}
 use Rattle.slots.specs.World.{World}
 use Rattle.slots.specs.Laws.{Laws}
 use Rattle.slots.specs.Slots.{some_force, plan_on, slot_on, slots_turned}
-use Rattle.slots.specs.Load.{load_refusal}
+use Rattle.slots.specs.Load.{room_refusal, load_refusal}
 use Rattle.slots.specs.Bounds.{slots_good, idle_good}
 use Rattle.slots.proofs.Kept.{slots-in, slots-out, slots-turned, force-turned, no-usage}
 use Rattle.state.specs.State.{State}
@@ -28,14 +30,6 @@ module _ (w : World) (m : State) (s : Stamp) where
   unfolding turn turned_to
   turn-clock = cases (ltb m.clock.date s.date) (λ t. rw t) (λ t. rw t)
 
-  pub turn_one : (turn w m s).slots.one ≡ m.slots.one
-  unfolding turn turned_to slots_turned
-  turn_one = cases (ltb m.clock.date s.date) (λ t. rw t) (λ t. rw t)
-
-  pub turn_two : (turn w m s).slots.two ≡ m.slots.two
-  unfolding turn turned_to slots_turned
-  turn_two = cases (ltb m.clock.date s.date) (λ t. rw t) (λ t. rw t)
-
   pub turn-account : (turn w m s).account ≡ m.account
   unfolding turn turned_to
   turn-account = cases (ltb m.clock.date s.date) (λ t. rw t) (λ t. rw t)
@@ -45,12 +39,12 @@ module _ (w : World) (m : State) (s : Stamp) where
   turn-volumes = cases (ltb m.clock.date s.date) (λ t. rw t) (λ t. rw t)
 
   pub turn-force : (d : ℕ) → some_force w (turn w m s).slots d ≡ some_force w m.slots d
-  unfolding some_force plan_on slot_on
-  turn-force d = rw (turn_one, turn_two)
+  unfolding turn turned_to slots_turned some_force plan_on slot_on
+  turn-force d = cases (ltb m.clock.date s.date) (λ t. rw t) (λ t. rw t)
 
-  pub turn-load : (k : ℕ) (r : Reading) → load_refusal w (turn w m s).slots (turn w m s).clock.date k r ≡ load_refusal w m.slots s.date k r
-  unfolding load_refusal
-  turn-load k r = rw (turn_one, turn_two, turn-clock)
+  pub turn-load : (k : ℕ) (r : Result Plan Refusal) → load_refusal w (turn w m s).slots (turn w m s).clock.date k r ≡ load_refusal w m.slots s.date k r
+  unfolding turn turned_to slots_turned load_refusal room_refusal
+  turn-load k r = cases (ltb m.clock.date s.date) (λ t. rw t) (λ t. rw t)
 
 module _ (w : World) (L : Laws w) where
   turned-state : (m : State) (s : Stamp) → m.clock.date ≤ s.date → Parts w m → Parts w (turned_to w m s)

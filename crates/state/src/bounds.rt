@@ -1,12 +1,9 @@
 // Document 01, "Bounds of a meter": what a meter that a host hands in must keep.
 ghost use Rattle.std.specs.Prelude.{◌≡◌};
-ghost use Rattle.units.specs.Money.{highest_balance};
-ghost use Rattle.records.specs.Words.{held_of};
-ghost use Rattle.records.specs.Bounds.{held_good};
 ghost use Rattle.slots.specs.World.{real};
 ghost use Rattle.slots.specs.Slots.{some_force};
 ghost use Rattle.state.specs.State.{state_of};
-ghost use Rattle.state.specs.Bounds.{is_fresh_volumes, is_fresh, volumes_good, state_good, bounded};
+ghost use Rattle.state.specs.Bounds.{is_fresh, volumes_good, bounded};
 
 use crate::{Registers, Volumes};
 use account::Account;
@@ -14,13 +11,6 @@ use records::held;
 use records::held::Words;
 
 impl Volumes {
-    #[tactic(auto, unfolding(crate::specs::Bounds::is_fresh_volumes))]
-    fn is_fresh(self) -> bool
-        ensures { result ≡ is_fresh_volumes self }
-    {
-        (self.total.0 == 0) & (self.unpriced.0 == 0)
-    }
-
     #[tactic(auto, unfolding(crate::specs::Bounds::volumes_good))]
     fn is_good(self) -> bool
         ensures { result ≡ volumes_good self }
@@ -30,34 +20,21 @@ impl Volumes {
 }
 
 impl Registers {
-    #[tactic(auto, unfolding(crate::specs::State::state_with, crate::specs::Bounds::is_fresh))]
+    #[tactic(auto, unfolding(crate::specs::State::state_with, crate::specs::Bounds::is_fresh, crate::specs::Bounds::is_fresh_volumes))]
     fn is_fresh(self, words: &Words) -> bool
         ensures { result ≡ is_fresh (state_of self words.now) }
     {
         (self.clock.second == 0)
             & (self.account.is_fresh()
                 & (self.slots.is_fresh()
-                    & (self.volumes.is_fresh()
+                    & ((self.volumes == Volumes::fresh())
                         & (self.valve.is_fresh()
                             & (self.periods.is_fresh() & held::is_fresh(words))))))
     }
 
-    // `kept`: the held records keep the bounds; they are tested first, while little else is in the processor's registers.
-    #[tactic(auto, unfolding(crate::specs::State::state_with, crate::specs::Bounds::state_good, slots::specs::Bounds::idle_good))]
-    fn state_good(self, words: &Words, kept: bool, some: bool) -> bool
-        requires kept_value { kept ≡ held_good highest_balance self.volumes.total.0 (held_of words.now) }
-        requires some_value { some ≡ some_force real self.slots self.clock.date }
-        ensures { result ≡ state_good real (state_of self words.now) }
-    {
-        self.volumes.is_good()
-            & (self.account.is_good(self.volumes.total)
-                & (self.slots.is_good(self.clock.date, self.volumes.total)
-                    & (self.periods.is_good(self.volumes.total)
-                        & (kept & self.slots.idle_good(some, self.valve.opened)))))
-    }
-
-    // Whether the meter is within its bounds, `some` being whether a plan is in force on the clock's date.
-    #[tactic(auto, unfolding(crate::specs::State::state_with, crate::specs::Bounds::bounded, crate::specs::Bounds::stamp_good, calendar::specs::Stamp::is_stamp))]
+    // Whether the meter is within its bounds, `some` being whether a plan is in force on the clock's date. The held records are
+    // tested first, while little else is in the processor's registers.
+    #[tactic(auto, unfolding(crate::specs::State::state_with, crate::specs::Bounds::bounded, crate::specs::Bounds::stamp_good, crate::specs::Bounds::state_good, calendar::specs::Stamp::is_stamp, slots::specs::Bounds::idle_good))]
     pub(crate) fn bounded_on(self, words: &Words, some: bool) -> bool
         requires { some ≡ some_force real self.slots self.clock.date }
         ensures { result ≡ bounded real (state_of self words.now) }
@@ -66,7 +43,12 @@ impl Registers {
         if self.clock.date == 0 {
             return self.is_fresh(words);
         }
-        self.clock.is_stamp() & self.state_good(words, kept, some)
+        self.clock.is_stamp()
+            & (self.volumes.is_good()
+                & (self.account.is_good(self.volumes.total)
+                    & (self.slots.is_good(self.clock.date, self.volumes.total)
+                        & (self.periods.is_good(self.volumes.total)
+                            & (kept & self.slots.idle_good(some, self.valve.opened))))))
     }
 
     // Whether the meter is within its bounds: refusal 0 where it is not.
