@@ -1,4 +1,4 @@
-// The seven calls, on a meter that the host keeps.
+// The seven calls, on a meter that the host keeps. C calls each by its name, so each has its function.
 ghost use Rattle.std.specs.Prelude.{◌≡◌};
 ghost use Rattle.meter.specs.Call.{pulses as pulses_call, recharge as recharge_call, load as load_call, alarms as alarms_call, command as command_call, key as key_call, tick as tick_call};
 ghost use Rattle.meter.specs.Machine.{fresh_meter, outcome};
@@ -18,61 +18,54 @@ pub extern "C" fn harpdapple_fresh() -> Meter
 pub extern "C" fn harpdapple_pulses(meter: &mut Meter, call: Pulses) -> Reply
     ensures { (meter.new ≡ (outcome meter.old (pulses_call call)).meter) × (result ≡ reply_of (outcome meter.old (pulses_call call)).done) }
 {
-    let r = (*meter).machine.pulses(&mut (*meter).held, call);
-    (*meter).machine = r.machine;
-    crate::reply_of(r.done)
+    let answer = (*meter).machine.pulses(&mut (*meter).held, call);
+    Reply::from((*meter).machine.settle(answer))
 }
 
 #[unsafe(no_mangle)]
 pub extern "C" fn harpdapple_recharge(meter: &mut Meter, call: Recharge) -> Reply
     ensures { (meter.new ≡ (outcome meter.old (recharge_call call)).meter) × (result ≡ reply_of (outcome meter.old (recharge_call call)).done) }
 {
-    let r = (*meter).machine.recharge(&mut (*meter).held, call);
-    (*meter).machine = r.machine;
-    crate::reply_of(r.done)
+    let answer = (*meter).machine.recharge(&mut (*meter).held, call);
+    Reply::from((*meter).machine.settle(answer))
 }
 
 #[unsafe(no_mangle)]
 pub extern "C" fn harpdapple_load(meter: &mut Meter, call: Load, bytes: &[u8]) -> Reply
     ensures { (meter.new ≡ (outcome meter.old (load_call call bytes.now)).meter) × (result ≡ reply_of (outcome meter.old (load_call call bytes.now)).done) }
 {
-    let r = (*meter).machine.load(&mut (*meter).held, call, bytes);
-    (*meter).machine = r.machine;
-    crate::reply_of(r.done)
+    let answer = (*meter).machine.load(&mut (*meter).held, call, bytes);
+    Reply::from((*meter).machine.settle(answer))
 }
 
 #[unsafe(no_mangle)]
 pub extern "C" fn harpdapple_alarms(meter: &mut Meter, call: Alarms) -> Reply
     ensures { (meter.new ≡ (outcome meter.old (alarms_call call)).meter) × (result ≡ reply_of (outcome meter.old (alarms_call call)).done) }
 {
-    let r = (*meter).machine.alarms(&mut (*meter).held, call);
-    (*meter).machine = r.machine;
-    crate::reply_of(r.done)
+    let answer = (*meter).machine.alarms(&mut (*meter).held, call);
+    Reply::from((*meter).machine.settle(answer))
 }
 
 #[unsafe(no_mangle)]
 pub extern "C" fn harpdapple_command(meter: &mut Meter, call: Command) -> Reply
     ensures { (meter.new ≡ (outcome meter.old (command_call call)).meter) × (result ≡ reply_of (outcome meter.old (command_call call)).done) }
 {
-    let r = (*meter).machine.command(&mut (*meter).held, call);
-    (*meter).machine = r.machine;
-    crate::reply_of(r.done)
+    let answer = (*meter).machine.command(&mut (*meter).held, call);
+    Reply::from((*meter).machine.settle(answer))
 }
 
 #[unsafe(no_mangle)]
 pub extern "C" fn harpdapple_key(meter: &mut Meter, call: Key) -> Reply
     ensures { (meter.new ≡ (outcome meter.old (key_call call)).meter) × (result ≡ reply_of (outcome meter.old (key_call call)).done) }
 {
-    let r = (*meter).machine.key(&mut (*meter).held, call);
-    (*meter).machine = r.machine;
-    crate::reply_of(r.done)
+    let answer = (*meter).machine.key(&mut (*meter).held, call);
+    Reply::from((*meter).machine.settle(answer))
 }
 
 #[unsafe(no_mangle)]
 pub extern "C" fn harpdapple_tick(meter: &mut Meter, call: Tick) -> Reply
     ensures { (meter.new ≡ (outcome meter.old (tick_call call)).meter) × (result ≡ reply_of (outcome meter.old (tick_call call)).done) }
 {
-    let r = (*meter).machine.tick(&mut (*meter).held, call);
-    (*meter).machine = r.machine;
-    crate::reply_of(r.done)
+    let answer = (*meter).machine.tick(&mut (*meter).held, call);
+    Reply::from((*meter).machine.settle(answer))
 }

@@ -1,9 +1,7 @@
 -- The promise of a call says what the rules say: the machine and the words that it leaves are the state after the call.
 use mathlib.Core.Path.{◌≡◌, refl, sym, ◌∙◌}
-use mathlib.Core.List.{List}
-use Prim.Native.Nat.{ℕ}
-use Rattle.answer.specs.declared.Answer.{Answer}
-use Rattle.answer.specs.declared.Answer.TheVariants.{Accepted, Refused}
+use Rattle.std.specs.Prelude.{⊤, Result, Ok, Err}
+use Rattle.answer.specs.declared.Refusal.{Refusal}
 use Rattle.answer.proofs.Tests.{next-first}
 use Rattle.records.specs.Records.{Held}
 use Rattle.records.specs.Words.{rows, held_from, held_of, no_words}
@@ -15,11 +13,10 @@ use Rattle.state.specs.Refusals.{stamp_refusal}
 use Rattle.state.proofs.Admitted.{stamp-passed}
 use Rattle.state.proofs.WordsTurned.{turn-held, turn-long}
 use Rattle.meter.specs.declared.Meter.{Meter}
-use Rattle.meter.specs.declared.Outcome.{Outcome}
 use Rattle.meter.specs.Call.{Call, pulses, recharge, load, alarms, command, key, tick, stamp_of}
 use Rattle.meter.specs.Refusals.{own_refusal, refusal_of}
 use Rattle.meter.specs.Effects.{effect_of}
-use Rattle.meter.specs.Machine.{after, left, meter_of, state_in, fresh_meter, outcome, left_by, Answers, Follows, FollowsRules}
+use Rattle.meter.specs.Machine.{after, left, state_in, fresh_meter, outcome, Follows, FollowsRules}
 
 -- no effect touches a held record
 effect-held : (w : World) (m : State) (c : Call) → (effect_of w m c).held ≡ m.held
@@ -44,20 +41,16 @@ pub follows : FollowsRules
 unfolding outcome left after refusal_of
 follows m c long = go (refusal_of real (state_in m) c) refl
   where
-    go : (a : Answer) → refusal_of real (state_in m) c ≡ a → Follows m c
-    go Accepted e =
+    go : (a : Result ⊤ Refusal) → refusal_of real (state_in m) c ≡ a → Follows m c
+    go (Ok tt) e =
         let r = m.machine.registers in
         let s = stamp_of c in
         let b = (stamp-passed real (state_in m) s (next-first (stamp_refusal real (state_in m) s) (own_refusal real (state_in m) c) e)).0 in
         let h = effect-held real (turn real (state_in m) s) c ∙ turn-held r m.held s long b in
         record { state = rw e (same-state (after real (state_in m) c) _ h); long = rw e (turn-long r m.held s long) }
-    go (Refused n) e = record { state = rw e (same-state (state_in m) _ (same-held m)); long = rw e long }
+    go (Err n) e = record { state = rw e (same-state (state_in m) _ (same-held m)); long = rw e long }
 
 -- a fresh meter has a fresh state
 pub fresh_in : state_in fresh_meter ≡ fresh
 unfolding fresh registers_of state_with held_from rows no_words
 fresh_in = refl
-
--- an answer is what the call leaves
-pub answer-left : (m : Meter) (c : Call) (r : Outcome) (words : List ℕ) → Answers m c r words → left_by r words ≡ outcome m c
-answer-left m c r words a = λ i. record { meter = meter_of (a.0 i) (a.1 i); done = a.2 i }

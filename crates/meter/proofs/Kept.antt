@@ -1,13 +1,14 @@
 -- Each accepted call keeps the bounds: a meter grown from a fresh one by calls never breaks them. Shown of any world that keeps the laws.
 use mathlib.Core.Path.{◌≡◌, refl, sym, ap, ◌∙◌}
 use mathlib.Core.Bool.{Bool, true, ◌&&◌}
-use Prim.Native.Nat.{ℕ, ◌+◌, ◌≤◌}
+use Prim.Native.Nat.{◌+◌, ◌≤◌}
 use lib.Dec.{leb, eqb}
 use lib.IntN.{pos}
 use lib.Signed.{lt_z}
 use borrow.Author.Tests.{leb-true}
 use Rattle.units.specs.Volume.{highest_total}
-use Rattle.answer.specs.declared.Answer.TheVariants.{Accepted}
+use Rattle.std.specs.Prelude.{Ok}
+use Rattle.answer.specs.declared.Refusal.TheVariants.{Pulses, Total, Key, Alarms}
 use Rattle.answer.proofs.Tests.{never, and_right, need-first, need-both, next-first, next-rest}
 use Rattle.calendar.specs.declared.Stamp.{Stamp}
 use Rattle.calendar.specs.Stamp.{not_before}
@@ -16,14 +17,15 @@ use Rattle.account.specs.Account.{alarms_good, is_fresh_account}
 use Rattle.account.specs.Valve.{is_fresh_valve}
 use Rattle.account.proofs.Kept.{recharged-good, alarmed-good}
 use Rattle.records.specs.Bounds.{is_fresh_periods, is_fresh_held}
-use Rattle.record.specs.declared.Reading.{Reading}
-use Rattle.record.specs.Record.{read_of}
+use Rattle.plan.specs.declared.Plan.{Plan}
+use Rattle.record.specs.Record.{read_of, plan_in}
 use Rattle.slots.specs.World.{World}
 use Rattle.slots.specs.Laws.{Laws}
 use Rattle.slots.specs.Slots.{some_force}
-use Rattle.slots.specs.Load.{loaded}
+use Rattle.slots.specs.declared.SlotName.{SlotName}
+use Rattle.slots.specs.Load.{slot_named, loaded}
 use Rattle.slots.specs.Bounds.{is_fresh_slots}
-use Rattle.slots.proofs.Kept.{slots-in, slots-out, Loads, loads, slots-loaded, none-loaded}
+use Rattle.slots.proofs.Kept.{slots-in, slots-out, Room, loads, slots-loaded, none-loaded}
 use Rattle.state.specs.State.{State, fresh, with_slots}
 use Rattle.state.specs.Bounds.{stamp_good, bounded, is_fresh, is_fresh_volumes}
 use Rattle.state.specs.Turn.{turn}
@@ -61,16 +63,16 @@ module _ (w : World) where
     pub bounds : bounded w m ≡ true
     pub stamp : stamp_good w (stamp_of c) ≡ true
     pub onward : not_before m.clock (stamp_of c) ≡ true
-    pub own : own_refusal w m c ≡ Accepted
+    pub own : own_refusal w m c ≡ Ok tt
 
-  pub passed : (m : State) (c : Call) → refusal_of w m c ≡ Accepted → Passed m c
+  pub passed : (m : State) (c : Call) → refusal_of w m c ≡ Ok tt → Passed m c
   unfolding refusal_of
   passed m c h =
       let p = stamp-passed w m (stamp_of c) (next-first (stamp_refusal w m (stamp_of c)) (own_refusal w m c) h) in
       record { bounds = p.0; stamp = p.1; onward = p.2; own = next-rest (stamp_refusal w m (stamp_of c)) (own_refusal w m c) h }
 
   -- and the other way
-  pub pass : (m : State) (c : Call) → Passed m c → refusal_of w m c ≡ Accepted
+  pub pass : (m : State) (c : Call) → Passed m c → refusal_of w m c ≡ Ok tt
   unfolding stamp_refusal
   pass m c p = refusal-own w m c (rw (p.bounds, p.stamp, p.onward)) ∙ p.own
 
@@ -81,27 +83,27 @@ module _ (w : World) where
 
 module _ (w : World) (L : Laws w) where
   -- a load
-  load-state : (m : State) (k : ℕ) (r : Reading) → Loads w m.slots m.clock.date k r → w.good r.plan ≡ true → Parts w m →
-      Parts w (with_slots m (loaded m.slots k r.plan))
+  load-state : (m : State) (k : SlotName) (p : Plan) → Room w m.slots m.clock.date k p → w.good p ≡ true → Parts w m →
+      Parts w (with_slots m (loaded m.slots k p))
   unfolding loaded
-  load-state m k r l y i =
+  load-state m k p l y i =
       let d = m.clock.date in
       let t = m.volumes.total.0 in
       record {
         volumes = i.volumes;
         account = i.account;
-        slots = slots-out w (loaded m.slots k r.plan) d t (slots-loaded w L m.slots d t k r l y (slots-in w m.slots d t i.slots));
+        slots = slots-out w (loaded m.slots k p) d t (slots-loaded w L m.slots d t k p l y (slots-in w m.slots d t i.slots));
         periods = i.periods;
         held = i.held;
-        idle = idle-out w (with_slots m (loaded m.slots k r.plan)) (λ f.
-            let z = idle-in w m i (none-loaded w L m.slots d k r l f) in (z.0, z.1));
+        idle = idle-out w (with_slots m (loaded m.slots k p)) (λ f.
+            let z = idle-in w m i (none-loaded w L m.slots d k p l f) in (z.0, z.1));
       }
 
   -- any call that its own tests let pass
-  effect-state : (m : State) (c : Call) → own_refusal w m c ≡ Accepted → Parts w (turn w m (stamp_of c)) → Parts w (effect_of w (turn w m (stamp_of c)) c)
+  effect-state : (m : State) (c : Call) → own_refusal w m c ≡ Ok tt → Parts w (turn w m (stamp_of c)) → Parts w (effect_of w (turn w m (stamp_of c)) c)
   unfolding own_refusal effect_of pulse_refusal key_allowed
   effect-state m (pulses p) h i =
-      let t : m.volumes.total.0 + p.count.0 ≤ highest_total = leb-true _ _ (need-both 14 {a = Accepted} (need-both {b = leb p.count.0 most_pulses} 13 h).1).0 in
+      let t : m.volumes.total.0 + p.count.0 ≤ highest_total = leb-true _ _ (need-both Total {a = Ok tt} (need-both {b = leb p.count.0 most_pulses} Pulses h).1).0 in
       pulsed-state w L (turn w m p.stamp) p.count.0 (rw (turn-volumes w m p.stamp) t) i
   effect-state m (recharge r) h i = record {
     volumes = i.volumes;
@@ -114,10 +116,10 @@ module _ (w : World) (L : Laws w) where
   effect-state m (load c bytes) h i =
       let t = turn w m c.stamp in
       let l = loads w t.slots t.clock.date c.slot (read_of bytes) (turn-load w m c.stamp c.slot (read_of bytes) ∙ h) in
-      load-state t c.slot (read_of bytes) l (L.read-good bytes l.read) i
+      load-state t (slot_named c.slot) (plan_in (read_of bytes)) l.room (L.read-good bytes (rw l.read)) i
   effect-state m (alarms a) h i = record {
     volumes = i.volumes;
-    account = alarmed-good (turn w m a.stamp).account (turn w m a.stamp).volumes.total.0 a.one a.two (need-first (alarms_good a.one a.two) 23 Accepted h) i.account;
+    account = alarmed-good (turn w m a.stamp).account (turn w m a.stamp).volumes.total.0 a.one a.two (need-first (alarms_good a.one a.two) Alarms (Ok tt) h) i.account;
     slots = i.slots;
     periods = i.periods;
     held = i.held;
@@ -136,7 +138,7 @@ module _ (w : World) (L : Laws w) where
   effect-state m (key k) h i =
       let d = k.stamp.date in
       let e = lt_z (pos 0) m.account.balance.0 && some_force w m.slots d in
-      let a : (m.valve.allow && e) ≡ true = need-first (m.valve.allow && e) 22 Accepted h in
+      let a : (m.valve.allow && e) ≡ true = need-first (m.valve.allow && e) Key (Ok tt) h in
       let f : some_force w m.slots d ≡ true = and_right (lt_z (pos 0) m.account.balance.0) (some_force w m.slots d) (and_right m.valve.allow e a) in
       record {
         volumes = i.volumes;
@@ -150,7 +152,7 @@ module _ (w : World) (L : Laws w) where
   effect-state m (tick t) h i = i
 
   -- an accepted call leaves a meter within its bounds
-  pub kept : (m : State) (c : Call) → refusal_of w m c ≡ Accepted → bounded w (after w m c) ≡ true
+  pub kept : (m : State) (c : Call) → refusal_of w m c ≡ Ok tt → bounded w (after w m c) ≡ true
   unfolding after
   kept m c h =
       let p = passed w m c h in

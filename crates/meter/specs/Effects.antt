@@ -2,9 +2,9 @@
 use Rattle.std.specs.Prelude.{true, List, [], ◌∷◌, ℕ, eqb}
 use Rattle.account.specs.Valve.{valve_set, commanded, command_codes, key_codes}
 use Rattle.account.specs.Account.{recharged, alarmed}
-use Rattle.record.specs.Record.{read_of}
+use Rattle.record.specs.Record.{read_of, plan_in}
 use Rattle.slots.specs.World.{World}
-use Rattle.slots.specs.Load.{loaded}
+use Rattle.slots.specs.Load.{slot_named, loaded}
 use Rattle.state.specs.State.{State, with_account, with_slots, with_valve}
 use Rattle.state.specs.Pulsed.{pulsed, pulse_codes}
 use Rattle.meter.specs.Call.{Call, pulses, recharge, load, alarms, command, key, tick}
@@ -12,7 +12,7 @@ use Rattle.meter.specs.Call.{Call, pulses, recharge, load, alarms, command, key,
 unfoldable pub effect_of : World → State → Call → State
 effect_of w m (pulses p) = pulsed w m p.count.0
 effect_of w m (recharge r) = with_account m (recharged m.account r.amount.0 r.serial)
-effect_of w m (load l bytes) = with_slots m (loaded m.slots l.slot (read_of bytes).plan)
+effect_of w m (load l bytes) = with_slots m (loaded m.slots (slot_named l.slot) (plan_in (read_of bytes)))
 effect_of w m (alarms a) = with_account m (alarmed m.account a.one a.two)
 effect_of w m (command c) = with_valve m (commanded m.valve (eqb c.code 1))
 effect_of w m (key k) = with_valve m (valve_set m.valve true)

@@ -8,9 +8,10 @@ ghost use Rattle.account.specs.Valve.{valve_set, key_codes};
 ghost use Rattle.meter.specs.Call.{recharge, alarms, command};
 ghost use Rattle.meter.specs.Machine.{accepted_of, effect_by};
 
-use crate::{Alarms, Command, Machine, Outcome, Recharge};
-use account::Codes;
+use crate::{Alarms, Command, Outcome, Recharge};
+use account::Event;
 use plan::Plan;
+use slots::SlotName;
 use state::Stage;
 
 #[tactic(auto, unfolding(crate::specs::Effects::effect_of, crate::specs::Effects::codes_of, account::specs::Codes::note_all, state::specs::State::registers_of, state::specs::State::state_with))]
@@ -19,27 +20,30 @@ pub(crate) fn recharged(t: Stage, p: Recharge) -> Outcome
     requires amount_bound { p.amount.0 ≤ 2 ^ 55 }
     ensures { result ≡ effect_by t (recharge p) }
 {
-    let mut next = t.registers;
-    next.account = next.account.recharged(p.amount, p.serial);
-    Machine::accepted(next, t.codes.note(Codes::RECHARGED))
+    let mut next = t;
+    next.registers.account = t.registers.account.recharged(p.amount, p.serial);
+    next.codes = t.codes.note(Event::Recharged);
+    Outcome::from(next)
 }
 
 #[tactic(auto, unfolding(account::specs::Codes::note_all, state::specs::State::registers_of, state::specs::State::state_with))]
-pub(crate) fn loaded(t: Stage, slot: u32, plan: Plan) -> Outcome
+pub(crate) fn loaded(t: Stage, slot: SlotName, plan: Plan) -> Outcome
     ensures { result ≡ accepted_of (registers_of (with_slots (alone t.registers) (loaded t.registers.slots slot plan))) (note_all t.codes (0x27 ∷ [])) }
 {
-    let mut next = t.registers;
-    next.slots = next.slots.loaded(slot, plan);
-    Machine::accepted(next, t.codes.note(Codes::SET))
+    let mut next = t;
+    next.registers.slots = t.registers.slots.loaded(slot, plan);
+    next.codes = t.codes.note(Event::Set);
+    Outcome::from(next)
 }
 
 #[tactic(auto, unfolding(crate::specs::Effects::effect_of, crate::specs::Effects::codes_of, account::specs::Codes::note_all, state::specs::State::registers_of, state::specs::State::state_with))]
 pub(crate) fn alarmed(t: Stage, p: Alarms) -> Outcome
     ensures { result ≡ effect_by t (alarms p) }
 {
-    let mut next = t.registers;
-    next.account = next.account.alarmed(p.one, p.two);
-    Machine::accepted(next, t.codes.note(Codes::SET))
+    let mut next = t;
+    next.registers.account = t.registers.account.alarmed(p.one, p.two);
+    next.codes = t.codes.note(Event::Set);
+    Outcome::from(next)
 }
 
 #[tactic(auto, unfolding(crate::specs::Effects::effect_of, crate::specs::Effects::codes_of, state::specs::State::registers_of, state::specs::State::state_with))]
@@ -47,24 +51,18 @@ pub(crate) fn commanded(t: Stage, p: Command) -> Outcome
     ensures { result ≡ effect_by t (command p) }
 {
     let allow = p.code == 1;
-    let mut next = t.registers;
-    let codes = next.valve.command_codes(allow, t.codes);
-    next.valve = next.valve.commanded(allow);
-    Machine::accepted(next, codes)
+    let mut next = t;
+    next.registers.valve = t.registers.valve.commanded(allow);
+    next.codes = t.registers.valve.command_codes(allow, t.codes);
+    Outcome::from(next)
 }
 
 #[tactic(auto, unfolding(state::specs::State::registers_of, state::specs::State::state_with))]
 pub(crate) fn opened(t: Stage) -> Outcome
     ensures { result ≡ accepted_of (registers_of (with_valve (alone t.registers) (valve_set t.registers.valve true))) (note_all t.codes (key_codes t.registers.valve)) }
 {
-    let mut next = t.registers;
-    let codes = next.valve.key_codes(t.codes);
-    next.valve = next.valve.set(true);
-    Machine::accepted(next, codes)
-}
-
-pub(crate) fn none(t: Stage) -> Outcome
-    ensures { result ≡ accepted_of t.registers t.codes }
-{
-    Machine::accepted(t.registers, t.codes)
+    let mut next = t;
+    next.registers.valve = t.registers.valve.set(true);
+    next.codes = t.registers.valve.key_codes(t.codes);
+    Outcome::from(next)
 }

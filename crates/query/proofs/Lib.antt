@@ -1,2 +1,2 @@
 pub mod Bounds
-pub mod Sum
+pub mod SoFar

@@ -1,32 +1,28 @@
--- A stamp that is not admitted is declined, a number above 1 is refused; else the day turns, and the command is done.
+-- Refused by its stamp or by a number that is no command; else the day turns, and the command is done.
 use Rattle.std.proofs.Common.{sym, ◌∙◌}
+use Rattle.std.proofs.lemmas.Result.{err_from_is_err_and}
 use Rattle.state.specs.State.{state_with}
-use Rattle.state.proofs.Rooms.{is-command, no-command}
-use Rattle.state.proofs.Admitted.{Admitted, admitted}
 use Rattle.meter.specs.Call.{command}
 use Rattle.meter.specs.Refusals.{own_refusal}
-use Rattle.meter.specs.Machine.{meter_of, state_in}
-use Rattle.meter.proofs.Outcomes.{not-admitted, own-refused, accepts}
+use Rattle.meter.specs.Machine.{meter_of}
+use Rattle.meter.proofs.Outcomes.{not-admitted, admits, denied, accepts}
 use Rattle.meter.proofs.Machine.command.Goals as goal
 
 pub returns-in_default : goal.returns-in_default
-returns-in_default c =
-    not-admitted (meter_of c.args.self c.args.words.now) (command c.args.p) _ _ _ c.admit-d.ensures c.in_default.is c.declined.ensures
+returns-in_default c = not-admitted (meter_of c.args.self c.args.words.now) (command c.args.p) (sym c.unwrap_err.ensures ∙ c.admit-admitted.ensures)
 
-pub returns-then-p-gt1 : goal.returns-then-p-gt1
+pub returns-in_err-need : goal.returns-in_err-need
 unfolding own_refusal
-returns-then-p-gt1 c =
-    let a : Admitted (state_in (meter_of c.args.self c.args.words.now)) c.args.p.stamp c.in-On.date = admitted _ _ _ (sym c.admit-d.ensures ∙ c.in-On.is) in
-    own-refused (meter_of c.args.self c.args.words.now) (command c.args.p) a.passed _ _ (rw (no-command _ c.if-p-gt1.true)) c.refused.ensures
+returns-in_err-need c =
+    let p = err_from_is_err_and c.from_residual.result c.from_residual.ensures.1 in rw (p.1, p.2)
+    (denied (meter_of c.args.self c.args.words.now) (command c.args.p) (sym c.in-Ok.is ∙ c.admit-admitted.ensures) (sym c.in_err-need.ensures))
 
-pub turn-requires : goal.turn-requires
+pub turn-t-requires : goal.turn-t-requires
 unfolding state_with
-turn-requires c =
-    let a : Admitted (state_in (meter_of c.args.self c.args.words.now)) c.args.p.stamp c.in-On.date = admitted _ _ _ (sym c.admit-d.ensures ∙ c.in-On.is) in
-    record { words_value = a.bounds; stamp_value = a.stamp; date_value = a.date }
+turn-t-requires c =
+    let a = admits (meter_of c.args.self c.args.words.now) (command c.args.p) (sym c.in-Ok.is ∙ c.admit-admitted.ensures) in
+    record { bounds = a.bounds; good = a.stamp; its_date = a.date }
 
 pub returns : goal.returns
 unfolding own_refusal
-returns c =
-    let a : Admitted (state_in (meter_of c.args.self c.args.words.now)) c.args.p.stamp c.in-On.date = admitted _ _ _ (sym c.admit-d.ensures ∙ c.in-On.is) in
-    accepts (meter_of c.args.self c.args.words.now) (command c.args.p) a.passed _ _ _ (rw (is-command _ c.if-p-gt1.false)) c.turn.ensures c.commanded.ensures
+returns c = accepts (meter_of c.args.self c.args.words.now) (command c.args.p) (sym c.in-Ok.is ∙ c.admit-admitted.ensures) _ _ _ (sym c.in_ok-need.ensures) c.turn-t.ensures c.commanded.ensures

@@ -1,7 +1,7 @@
--- A stamp that is not admitted is declined, a count that does not pass is refused; else the pulses count on the day of their stamp, whether
+-- Refused by its stamp or by its count; else the pulses count on the day of their stamp, whether
 -- it is turned first or stands.
 use Rattle.std.proofs.Common.{◌≡◌, List, ℕ, ◌+◌, ◌≤◌, refl, sym, ap, subst, ◌∙◌, arith}
-use Rattle.answer.specs.declared.Answer.TheVariants.{Accepted}
+use Rattle.std.specs.Prelude.{Ok}
 use Rattle.calendar.specs.declared.Stamp.{Stamp}
 use Rattle.account.specs.declared.Codes.{Codes}
 use Rattle.account.specs.Codes.{no_codes, note_all}
@@ -11,19 +11,19 @@ use Rattle.slots.specs.Slots.{force_on}
 use Rattle.slots.proofs.InForce.{its-some}
 use Rattle.state.specs.declared.Registers.{Registers}
 use Rattle.state.specs.declared.Stage.{Stage}
+use Rattle.std.proofs.lemmas.Result.{err_from_is_err_and}
 use Rattle.state.specs.State.{State, state_with, alone, registers_of, with_clock}
 use Rattle.state.specs.Turn.{turn, turn_codes, turn_words, Turned}
 use Rattle.state.specs.Pulsed.{pulsed, pulse_codes}
 use Rattle.state.specs.Refusals.{stamp_refusal}
 use Rattle.state.proofs.Parts.{total-low}
 use Rattle.state.proofs.Rooms.{state, pulses-fit, turned-good, turned-clock, same-day, same_codes, same-words, alone-good, later-force, same-force}
-use Rattle.state.proofs.Admitted.{Admitted, admitted}
 use Rattle.meter.specs.declared.Meter.{Meter}
 use Rattle.meter.specs.Call.{pulses}
 use Rattle.meter.specs.Refusals.{own_refusal}
 use Rattle.meter.specs.Effects.{effect_of, codes_of}
 use Rattle.meter.specs.Machine.{meter_of, state_in, accepted_of}
-use Rattle.meter.proofs.Outcomes.{not-admitted, denied, accepts}
+use Rattle.meter.proofs.Outcomes.{not-admitted, admits, denied, accepts}
 use Rattle.meter.proofs.Machine.pulses.Goals as goal
 use Rattle.meter.proofs.Machine.pulses.Goals.{then-self-date, else-self-date}
 
@@ -48,7 +48,7 @@ met-turned m s t q i a b c d = record {
 }
 
 -- a day that stands
-met-same : (m : Meter) (s : Stamp) {r : Registers} {h : List ℕ} {n k : Codes} {f e : Force} → stamp_refusal real (state_in m) s ≡ Accepted →
+met-same : (m : Meter) (s : Stamp) {r : Registers} {h : List ℕ} {n k : Codes} {f e : Force} → stamp_refusal real (state_in m) s ≡ Ok tt →
     s.date ≤ m.machine.registers.clock.date → k ≡ no_codes → e ≡ force_on real m.machine.registers.slots m.machine.registers.clock.date →
     r ≡ m.machine.registers → h ≡ m.held → n ≡ k → f ≡ e → Met m s r h n f
 unfolding note_all state_with
@@ -59,47 +59,44 @@ met-same m s p l j i a b c d = record {
   force = d ∙ i ∙ same-force (state_in m) s p l;
 }
 
-pub admit-d-requires : goal.admit-d-requires
-admit-d-requires c = its-some real c.args.self.registers.slots c.force-was.ensures
+pub admit-admitted-requires : goal.admit-admitted-requires
+admit-admitted-requires c = c.is_some.ensures ∙ its-some real c.args.self.registers.slots c.force-was.ensures
 
 pub returns-in_default : goal.returns-in_default
-returns-in_default c =
-    not-admitted (meter_of c.args.self c.args.words.now) (pulses c.args.p) _ _ _ c.admit-d.ensures c.in_default.is c.declined.ensures
+returns-in_default c = not-admitted (meter_of c.args.self c.args.words.now) (pulses c.args.p) (sym c.unwrap_err.ensures ∙ c.admit-admitted.ensures)
 
-pub vet-a-requires : goal.vet-a-requires
+pub vet-requires : goal.vet-requires
 unfolding state_with
-vet-a-requires c =
-    let a : Admitted (state_in (meter_of c.args.self c.args.words.now)) c.args.p.stamp c.in-On.date = admitted _ _ _ (sym c.admit-d.ensures ∙ c.in-On.is) in
-    total-low real _ (state _ a.bounds)
+vet-requires c = total-low real _ (state _ (admits (meter_of c.args.self c.args.words.now) (pulses c.args.p) (sym c.in-Ok.is ∙ c.admit-admitted.ensures)).bounds)
 
-pub returns-in_default-a : goal.returns-in_default-a
+pub returns-in_err-vet : goal.returns-in_err-vet
 unfolding own_refusal state_with
-returns-in_default-a c =
-    let a : Admitted (state_in (meter_of c.args.self c.args.words.now)) c.args.p.stamp c.in-On.date = admitted _ _ _ (sym c.admit-d.ensures ∙ c.in-On.is) in
-    denied (meter_of c.args.self c.args.words.now) (pulses c.args.p) a.passed _ _ _ c.vet-a.ensures c.in_default-a.is c.denied.ensures
+returns-in_err-vet c =
+    let p = err_from_is_err_and c.from_residual.result c.from_residual.ensures.1 in rw (p.1, p.2)
+    (denied (meter_of c.args.self c.args.words.now) (pulses c.args.p) (sym c.in-Ok.is ∙ c.admit-admitted.ensures) (sym c.in_err-vet.ensures))
 
 pub turn-t-requires : goal.turn-t-requires
 unfolding state_with
 turn-t-requires c =
-    let a : Admitted (state_in (meter_of c.args.self c.args.words.now)) c.args.p.stamp c.in-On.date = admitted _ _ _ (sym c.admit-d.ensures ∙ c.in-On.is) in
-    record { words_value = a.bounds; stamp_value = a.stamp; date_value = a.date }
+    let a = admits (meter_of c.args.self c.args.words.now) (pulses c.args.p) (sym c.in-Ok.is ∙ c.admit-admitted.ensures) in
+    record { bounds = a.bounds; good = a.stamp; its_date = a.date }
 
-pub pulsed-after-requires : goal.pulsed-after-requires
+pub pulsed-requires : goal.pulsed-requires
 unfolding registers_of state_with
-pulsed-after-requires c =
+pulsed-requires c =
     let u : Meter = meter_of c.args.self c.args.words.now in
     let m : State = state_in u in
     let s : Stamp = c.args.p.stamp in
-    let a : Admitted m s c.in-On.date = admitted _ _ _ (sym c.admit-d.ensures ∙ c.in-On.is) in
+    let a = admits u (pulses c.args.p) (sym c.in-Ok.is ∙ c.admit-admitted.ensures) in
     let e : Met u s c.if-self-date.s c.if-self-date.words c.if-self-date.codes c.if-self-date.f = elim c.if-self-date.branch [
       | then-self-date w ↦ met-turned u s _ w.turn-t.ensures (w.force-f.ensures ∙ ap (force_on real c.args.self.registers.slots) a.date) w.s-is w.words-is w.codes-is w.f-is
       | else-self-date w ↦ met-same u s a.passed (omega (arith, w.if-self-date.false, a.date)) c.none-codes.ensures c.force-was.ensures w.s-is w.words-is w.codes-is w.f-is
     ] in
     record {
-      stamp_value = rw e.registers (alone-good _ (turned-good m s a.passed));
-      f_value = e.force ∙ sym (ap (λ (x : State). force_on real x.slots s.date) e.registers);
-      n_bound = subst (λ (x : State). x.volumes.total.0 + c.args.p.count.0 ≤ 99999999) (sym e.registers)
-          (pulses-fit m s c.args.p.count.0 (sym c.vet-a.ensures ∙ c.in-Accepted.is));
+      good = rw e.registers (alone-good _ (turned-good m s a.passed));
+      in_force = e.force ∙ sym (ap (λ (x : State). force_on real x.slots s.date) e.registers);
+      total = subst (λ (x : State). x.volumes.total.0 + c.args.p.count.0 ≤ 99999999) (sym e.registers)
+          (pulses-fit m s c.args.p.count.0 (sym c.in_ok-vet.ensures));
     }
 
 pub returns : goal.returns
@@ -108,12 +105,12 @@ returns c =
     let u : Meter = meter_of c.args.self c.args.words.now in
     let m : State = state_in u in
     let s : Stamp = c.args.p.stamp in
-    let a : Admitted m s c.in-On.date = admitted _ _ _ (sym c.admit-d.ensures ∙ c.in-On.is) in
+    let a = admits u (pulses c.args.p) (sym c.in-Ok.is ∙ c.admit-admitted.ensures) in
     let e : Met u s c.if-self-date.s c.if-self-date.words c.if-self-date.codes c.if-self-date.f = elim c.if-self-date.branch [
       | then-self-date w ↦ met-turned u s _ w.turn-t.ensures (w.force-f.ensures ∙ ap (force_on real c.args.self.registers.slots) a.date) w.s-is w.words-is w.codes-is w.f-is
       | else-self-date w ↦ met-same u s a.passed (omega (arith, w.if-self-date.false, a.date)) c.none-codes.ensures c.force-was.ensures w.s-is w.words-is w.codes-is w.f-is
     ] in
     let t : Stage = record { registers = registers_of (turn real m s); codes = note_all no_codes (turn_codes real m s) } in
-    accepts u (pulses c.args.p) a.passed t _ _ (sym c.vet-a.ensures ∙ c.in-Accepted.is) (refl, e.words, refl)
-    (c.accepted.ensures ∙ rw (c.pulsed-after.ensures.0, c.pulsed-after.ensures.1, e.codes)
+    accepts u (pulses c.args.p) (sym c.in-Ok.is ∙ c.admit-admitted.ensures) t _ _ (sym c.in_ok-vet.ensures) (refl, e.words, refl)
+    (c.from.ensures ∙ rw (c.pulsed.ensures.registers, c.pulsed.ensures.codes, e.codes)
     (ap (λ (x : State). accepted_of (registers_of (pulsed real x c.args.p.count.0)) (note_all t.codes (pulse_codes real x c.args.p.count.0))) e.registers))
