@@ -1,4 +1,4 @@
 pub mod Rooms
-pub mod Sheets
+pub mod Pages
 pub mod Steps
 pub mod Proved

@@ -1,16 +1,17 @@
 -- The desk after a list of calls holds the meter and the ledger of that list, so the two agree.
 use mathlib.Core.Path.{◌≡◌, refl, ap, ◌∙◌}
+use mathlib.Core.Bool.{Bool}
 use mathlib.Core.List.{List, [], ◌∷◌}
 use lib.ListN.{length}
 use Rattle.slots.specs.World.{real}
 use Rattle.state.specs.State.{State, state_with, fresh}
 use Rattle.meter.specs.Call.{Call}
-use Rattle.meter.specs.Machine.{left, state_in, outcome, fresh_meter}
+use Rattle.meter.specs.Machine.{state_in, outcome, fresh_meter}
 use Rattle.meter.proofs.Follow.{follows, fresh_in}
 use Rattle.records.proofs.AfterTurn.{none-long}
 use Rattle.ledger.specs.Lists.{taken, run}
 use Rattle.ledger.specs.Answers.{meter_left}
-use Rattle.ledger.proofs.Answered.{answers-tell}
+use Rattle.ledger.proofs.Answered.{accepts, answers-tell}
 use Rattle.book.specs.Book.{blank_book}
 use Rattle.book.specs.Kept.{fed_book, book_of_run}
 use Rattle.book.proofs.Proved.{book-kept}
@@ -25,15 +26,13 @@ meter-left d (c ∷ cs) = meter-left (played d c).desk cs
 
 -- the ledger is fed along the list
 book-run : (d : Desk) (cs : List Call) → length d.meter.held ≡ 548 → (desk_of d cs).book ≡ book_of_run (state_in d.meter) d.book cs
-unfolding desk_of book_of_run played outcome
+unfolding desk_of book_of_run played
 book-run d [] long = refl
 book-run d (c ∷ cs) long =
     let f = follows d.meter c long in
-    book-run (played d c).desk cs f.long ∙ fed-same d c cs f.state
-  where
-    fed-same : (d : Desk) (c : Call) (cs : List Call) → state_in (outcome d.meter c).meter ≡ left real (state_in d.meter) c →
-        book_of_run (state_in (played d c).desk.meter) (played d c).desk.book cs ≡ book_of_run (left real (state_in d.meter) c) (fed_book d.book c (taken real (state_in d.meter) c)) cs
-    fed-same d c cs e = ap (λ (m : State). book_of_run m (fed_book d.book c (taken real (state_in d.meter) c)) cs) e
+    book-run (played d c).desk cs f.long
+    ∙ ap (λ (b : Bool). book_of_run (state_in (outcome d.meter c).meter) (fed_book d.book c b) cs) (accepts d.meter c)
+    ∙ ap (λ (m : State). book_of_run m (fed_book d.book c (taken real (state_in d.meter) c)) cs) f.state
 
 pub always-agrees : AlwaysAgrees
 unfolding new_desk state_with

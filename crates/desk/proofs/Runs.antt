@@ -1,19 +1,25 @@
--- What a call leaves on the desk, with the ledger fed.
+-- What a call leaves on the desk, by what the machine answers.
 use mathlib.Core.Path.{◌≡◌, ap}
-use mathlib.Core.Bool.{Bool}
 use mathlib.Core.List.{List}
 use Prim.Native.Nat.{ℕ}
-use Rattle.answer.specs.Answer.{is_accepted}
+use Rattle.std.specs.Prelude.{Result, is_ok}
+use Rattle.answer.specs.declared.Refusal.{Refusal}
+use Rattle.account.specs.declared.Codes.{Codes}
+use Rattle.meter.specs.declared.Machine.{Machine}
 use Rattle.meter.specs.declared.Outcome.{Outcome}
 use Rattle.meter.specs.Call.{Call}
-use Rattle.meter.specs.Machine.{Left, left_by, Answers}
-use Rattle.meter.proofs.Follow.{answer-left}
+use Rattle.meter.specs.Machine.{Left, meter_of, machine_by, done_by, Answers}
+use Rattle.book.specs.declared.Book.{Book}
 use Rattle.book.specs.Kept.{fed_book}
 use Rattle.desk.specs.declared.Desk.{Desk}
-use Rattle.desk.specs.Desk.{ran_by, played}
+use Rattle.desk.specs.declared.Played.{Played}
+use Rattle.desk.specs.Desk.{played}
 
--- t is whether the call was accepted
-pub fed : (d : Desk) (c : Call) (o : Outcome) (h : List ℕ) (t : Bool) → Answers d.meter c o h → t ≡ is_accepted o.done.answer → ran_by (left_by o h) (fed_book d.book c t) ≡ played d c
+abbrev left_on : Desk → Call → Left → Played
+left_on d c l = record { desk = record { meter = l.meter; book = fed_book d.book c (is_ok l.done) }; done = l.done }
+
+pub fed : (d : Desk) (c : Call) (r : Result Outcome Refusal) (words : List ℕ) (a : Machine) (k : Result Codes Refusal) (b : Book) →
+    Answers d.meter c r words → (a ≡ machine_by d.meter.machine r) × (k ≡ done_by r) → b ≡ fed_book d.book c (is_ok k) →
+    ◌≡◌ {A = Played} (record { desk = record { meter = meter_of a words; book = b }; done = k }) (played d c)
 unfolding played
-fed d c o h t e a =
-    rw a (ap (λ (l : Left). ran_by l (fed_book d.book c (is_accepted l.done.answer))) (answer-left d.meter c o h e))
+fed d c r words a k b e s f = rw (f, s.0, s.1) (ap (left_on d c) e)

@@ -1,10 +1,8 @@
 -- A meter with the ledger beside it: "It is fed each call's arguments and whether the call was accepted, and takes nothing else from the
 -- meter."
-use Rattle.std.specs.Prelude.{◌≡◌, List, [], ◌∷◌, pos, ◌-ℤ◌}
-use Rattle.answer.specs.Answer.{is_accepted}
+use Rattle.std.specs.Prelude.{◌≡◌, List, [], ◌∷◌, pos, ◌-ℤ◌, is_ok}
 use Rattle.meter.specs.Call.{Call}
-use Rattle.meter.specs.Machine.{Left, fresh_meter, outcome}
-use Rattle.book.specs.declared.Book.{Book}
+use Rattle.meter.specs.Machine.{fresh_meter, outcome}
 use Rattle.book.specs.Book.{blank_book, book_sum}
 use Rattle.book.specs.Kept.{fed_book}
 use Rattle.desk.specs.declared.Desk.{Desk}
@@ -13,12 +11,12 @@ use Rattle.desk.specs.declared.Played.{Played}
 unfoldable pub new_desk : Desk
 new_desk = record { meter = fresh_meter; book = blank_book }
 
-abbrev pub ran_by : Left → Book → Played
-ran_by l b = record { desk = record { meter = l.meter; book = b }; done = l.done }
-
 -- a call runs on the meter; the ledger is told its arguments where it was accepted
 unfoldable pub played : Desk → Call → Played
-played d c = ran_by (outcome d.meter c) (fed_book d.book c (is_accepted (outcome d.meter c).done.answer))
+played d c = record {
+  desk = record { meter = (outcome d.meter c).meter; book = fed_book d.book c (is_ok (outcome d.meter c).done) };
+  done = (outcome d.meter c).done;
+}
 
 -- the desk after a list of calls
 unfoldable pub desk_of : Desk → List Call → Desk
