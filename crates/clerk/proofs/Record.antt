@@ -1,55 +1,79 @@
 -- The record of a line stands at the start of the buffer, as long as its order says. Assumes nothing.
 use mathlib.Core.Path.{◌≡◌, refl}
+use mathlib.Core.Bool.{Bool, true, false, not}
 use mathlib.Core.List.{List, [], ◌∷◌}
 use Prim.Native.Nat.{ℕ}
+use lib.Dec.{eqb, leb}
 use lib.ListN.{length, take}
 use lib.Seq.{take_at}
+use Rattle.std.specs.Prelude.{◌||◌, Option, Some, None, Result, Ok}
+use Rattle.std.specs.Str.{bytes_eq}
 use Rattle.text.specs.Decimal.{starting_with}
-use Rattle.words.specs.Words.{content, word_at, same}
+use Rattle.words.specs.Words.{content, word_at, words_behind, has_gap}
+use Rattle.words.specs.Numbers.{are_numbers}
+use Rattle.words.specs.Hex.{is_hex}
 use Rattle.text.proofs.Digits.{cases}
-use Rattle.script.specs.declared.Form.{Form}
-use Rattle.script.specs.declared.Verdict.{Verdict}
-use Rattle.script.specs.declared.Verdict.TheVariants.{Sound, Fault}
+use Rattle.script.specs.declared.forms.Form.{Form}
+use Rattle.script.specs.declared.Fault.{Fault}
+use Rattle.script.specs.declared.Fault.TheVariants.{WordCount, NotANumber, NotHex, Gap}
 use Rattle.script.specs.declared.Order.{Order}
-use Rattle.script.specs.Forms.{Entry, numbered, questions, valves, entries, form_in, form_of}
-use Rattle.script.specs.Orders.{said_by, record_by, order_by, bytes_by, first_form, verdict_in, order_in, record_in, order_of, record_of}
+use Rattle.script.specs.Forms.{Line, entries, form_by, form_of}
+use Rattle.script.specs.Faults.{need, made_as, form_in}
+use Rattle.script.specs.Orders.{said_by, record_by, order_by, bytes_by, order_in, record_in, order_of, record_of}
 use Rattle.clerk.specs.Clerk.{size_of}
 
 -- the record that a form has is as long as the order that it asks for says
 abbrev Fits : Form → Type 0
-Fits f = (s : List ℕ) → length (record_by f s) ≡ size_of (said_by f.kind s)
+Fits f = (s : List ℕ) → length (record_by f s) ≡ size_of (Ok (said_by f.kind s))
 
--- each entry of a table has such a form
-data All : List Entry → Type 0 where
+abbrev FitsIf : Option Form → Type 0
+FitsIf None = Unit {0}
+FitsIf (Some f) = Fits f
+
+-- each line of a table has such a form
+data All : List Line → Type 0 where
   none : All []
-  more : {e : Entry} {es : List Entry} → Fits e.form → All es → All (e ∷ es)
+  more : {e : Line} {es : List Line} → Fits e.form → All es → All (e ∷ es)
 
-in_table : (w : List ℕ) {es : List Entry} → All es → Fits (form_in es w)
-unfolding form_in said_by record_by
-in_table w none s = refl
-in_table w (more {e} h t) s =
-    cases (same w e.word) (λ q. rw q (h s)) (λ q. rw q (in_table w t s))
+in_table : (w : List ℕ) {es : List Line} → All es → FitsIf (form_by es w)
+unfolding form_by
+in_table w none = tt
+in_table w (more {e} h t) =
+    cases (bytes_eq e.word w) (λ q. rw q h) (λ q. rw q (in_table w t))
 
 fits : All entries
-unfolding entries valves questions numbered said_by record_by
+unfolding entries said_by record_by
 fits =
     more (λ s. refl) (more (λ s. refl) (more (λ s. refl) (more (λ s. refl) (more (λ s. refl) (more (λ s. refl) (more (λ s. refl)
     (more (λ s. refl) (more (λ s. refl) (more (λ s. refl) (more (λ s. refl) (more (λ s. refl) (more (λ s. refl) none))))))))))))
 
-of-verdict : (v : Verdict) (f : Form) (s : List ℕ) → Fits f → length (bytes_by v f s) ≡ size_of (order_by v f s)
-of-verdict Sound f s h = h s
-of-verdict (Fault n) f s h = refl
+-- the same of a content's form, past each test
+abbrev Right : Result Form Fault → List ℕ → Type 0
+Right r s = length (bytes_by r s) ≡ size_of (order_by r s)
+
+tested : (t : Bool) (n : Fault) (r : Result Form Fault) (s : List ℕ) → Right r s → Right (need t n r) s
+tested true n r s h = h
+tested false n r s h = refl
+
+of-form : (o : Option Form) (s : List ℕ) → FitsIf o → Right (made_as o s) s
+of-form None s h = refl
+of-form (Some f) s h =
+    tested (eqb (words_behind s) f.words) WordCount _ s
+    (tested (are_numbers s f.numbers) NotANumber _ s
+    (tested (leb f.words f.numbers || is_hex (word_at s f.words)) NotHex (Ok f) s (h s)))
 
 of-content : (s : List ℕ) → length (record_in s) ≡ size_of (order_in s)
-unfolding order_in record_in form_of
+unfolding order_in record_in form_in form_of
 of-content [] = refl
-of-content (x ∷ l) = of-verdict (verdict_in (x ∷ l)) (first_form (x ∷ l)) (x ∷ l) (in_table (word_at (x ∷ l) 0) fits)
+of-content (x ∷ l) =
+    let s = x ∷ l in
+    tested (not (has_gap s)) Gap (made_as (form_by entries (word_at s 0)) s) s (of-form (form_by entries (word_at s 0)) s (in_table (word_at s 0) fits))
 
 of-line : (line : List ℕ) → length (record_of line) ≡ size_of (order_of line)
 unfolding order_of record_of
 of-line line = of-content (content line)
 
-pub kept : (line room₀ : List ℕ) {o : Order} {room : List ℕ} → o ≡ order_of line → room ≡ starting_with (record_of line) room₀
+pub kept : (line room₀ : List ℕ) {o : Result Order Fault} {room : List ℕ} → o ≡ order_of line → room ≡ starting_with (record_of line) room₀
     → take (size_of o) room ≡ record_of line
 unfolding starting_with
 kept line room₀ e f = rw (f, e) (take_at (record_of line) _ (size_of (order_of line)) (of-line line))

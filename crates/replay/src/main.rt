@@ -2,265 +2,186 @@
 // the ledger's view of the journal beside the meter's at the end.
 #![tactic(auto)]
 
-ghost use Rattle.std.specs.Prelude.{◌+◌, ◌*◌, ◌≤◌, length, IfOk};
+ghost use Rattle.std.specs.Prelude.{◌≡◌, ◌≤◌, length, OnOk, IfOk};
+ghost use Rattle.replay.specs.Room.{capacity, HasRoom};
 
 use desk::Desk;
+use script::Fault;
 use std::io;
 use std::io::{Read, Write};
 
-// The desk, the lines so far, and whether the program is inside a line that was too long.
-#[derive(Clone, Copy)]
-struct Spot {
+// The bytes of input, and of answers, that are held at once.
+const CAPACITY: usize = 65_536;
+
+// The most bytes of one answer.
+const LINE_ROOM: usize = 320;
+
+// The answers that wait to be written.
+#[derive(Drop)]
+struct Answers {
+    bytes: [u8; CAPACITY],
+    used: usize,
+    ghost in_bounds: { used ≤ capacity },
+}
+
+impl Answers {
+    // Writes what waits.
+    fn flush(&mut self, sink: &mut impl Write) -> io::Result<()>
+        ensures { OnOk result (self.new.used ≡ 0) }
+    {
+        sink.write_all(&self.bytes[..self.used])?;
+        self.used = 0;
+        Ok(())
+    }
+
+    // Sees to room for one more answer.
+    fn make_room(&mut self, sink: &mut impl Write) -> io::Result<()>
+        ensures { OnOk result (HasRoom self.new.used) }
+    {
+        if self.bytes.len() - self.used < LINE_ROOM {
+            self.flush(sink)?;
+        }
+        Ok(())
+    }
+}
+
+// The desk, the lines so far, whether the program is inside a line that was too long, and what the
+// program writes to: the record of a plan and the answers.
+#[derive(Drop)]
+struct Player {
     desk: Desk,
     lines: u64,
     skipping: bool,
+    room: [u8; CAPACITY / 2],
+    answers: Answers,
 }
 
-// Where the program is after some lines: the bytes of output that wait, and those of the input that
-// are played or held.
-#[derive(Clone, Copy)]
-struct Turn {
-    spot: Spot,
-    at: usize,
-    input: usize,
-}
-
-fn next(n: u64) -> u64 {
-    if n < u64::MAX { n + 1 } else { n }
-}
-
-// Writes the first bytes of the output.
-fn flush(sink: &mut impl Write, at: usize, out: &[u8]) -> io::Result<()>
-    requires { at ≤ length out.now }
-{
-    sink.write_all(&out[..at])
-}
-
-// Sees to room for one more answer, and says where it begins.
-fn roomy(sink: &mut impl Write, at: usize, out: &[u8]) -> io::Result<usize>
-    requires { (at ≤ length out.now) × (320 ≤ length out.now) }
-    ensures { IfOk result (λ free. free + 320 ≤ length out.now) }
-{
-    if out.len() - at >= 320 {
-        return Ok(at);
-    }
-    flush(sink, at, out)?;
-    Ok(0)
-}
-
-// Plays one line; the end of a line that was too long is passed over.
-fn play_line(s: Spot, at: usize, line: &[u8], room: &mut [u8], out: &mut [u8]) -> Turn
-    requires line_len_bound { length line.now ≤ 2 * length room.old }
-    requires at_in_bounds { (at + 320 ≤ length out.old) × (length out.old ≤ 65536) }
-    ensures { result.at ≤ length out.old }
-{
-    let lines = next(s.lines);
-    let desk = s.desk;
-    if s.skipping {
-        return Turn {
-            spot: Spot {
-                desk,
-                lines,
-                skipping: false,
-            },
-            at,
-            input: 0,
-        };
-    }
-    let w = clerk::work(desk, lines, line, room, &mut out[at..]);
-    let left = w.desk;
-    let end = at + w.length;
-    Turn {
-        spot: Spot {
-            desk: left,
-            lines,
+impl Player {
+    fn new() -> Player {
+        Player {
+            desk: Desk::new(),
+            lines: 0,
             skipping: false,
-        },
-        at: end,
-        input: 0,
-    }
-}
-
-// Plays the whole lines of the input, and says how far they go.
-fn play_lines(
-    sink: &mut impl Write,
-    s: Spot,
-    input: &[u8],
-    room: &mut [u8],
-    out: &mut [u8],
-) -> io::Result<Turn>
-    requires input_len_bound { (length input.now ≤ 2 * length room.old) × (length input.now ≤ 65536) }
-    requires in_bounds { (320 ≤ length out.old) × (length out.old ≤ 65536) }
-    ensures { IfOk result (λ t. (t.at ≤ length out.old) × (t.input ≤ length input.now)) }
-{
-    let mut spot = s;
-    let mut at = 0usize;
-    let mut from = 0usize;
-    let mut end = lines::line_end(input, 0);
-    while end < input.len() {
-        let free = roomy(sink, at, out)?;
-        let t = play_line(spot, free, &input[from..end], room, out);
-        spot = t.spot;
-        at = t.at;
-        from = end + 1;
-        end = lines::line_end(input, from);
-    }
-    Ok(Turn {
-        spot,
-        at,
-        input: from,
-    })
-}
-
-// One read behind the bytes that are held: how many more there are, 0 at the end of the input.
-fn read_behind(source: &mut impl Read, input: &mut [u8], held: usize) -> io::Result<usize>
-    requires { held ≤ length input.old }
-    ensures { IfOk result (λ got. held + got ≤ length input.old) }
-{
-    source.read(&mut input[held..])
-}
-
-// What is left of the input is held for the next read, but for a line that is too long: it is
-// answered once, and passed over up to its end.
-fn keep(s: Spot, left: usize, most: usize, at: usize, out: &mut [u8]) -> Turn
-    requires at_in_bounds { at + 320 ≤ length out.old }
-    requires left_le_most { left ≤ most }
-    ensures { (result.at ≤ length out.old) × (result.input ≤ most) }
-{
-    if s.skipping {
-        return Turn {
-            spot: s,
-            at,
-            input: 0,
-        };
-    }
-    if left < most {
-        return Turn {
-            spot: s,
-            at,
-            input: left,
-        };
-    }
-    let k = report::error_line(next(s.lines), 6, &mut out[at..]);
-    let mut spot = s;
-    spot.skipping = true;
-    let end = at + k;
-    Turn {
-        spot,
-        at: end,
-        input: 0,
-    }
-}
-
-// The lines that a read completes, answered before the next; `have` bytes are there.
-fn play_some(
-    sink: &mut impl Write,
-    s: Spot,
-    have: usize,
-    input: &mut [u8],
-    room: &mut [u8],
-    out: &mut [u8],
-) -> io::Result<Turn>
-    requires input_len_bound { (length input.old ≤ 2 * length room.old) × (length input.old ≤ 65536) }
-    requires have_in_bounds { have ≤ length input.old }
-    requires in_bounds { (320 ≤ length out.old) × (length out.old ≤ 65536) }
-    ensures { IfOk result (λ t. t.input ≤ length input.old) }
-{
-    let t = play_lines(sink, s, &input[..have], room, out)?;
-    let from = t.input;
-    lines::shift(input, from, have);
-    let free = roomy(sink, t.at, out)?;
-    let spot = t.spot;
-    let k = keep(spot, have - from, input.len(), free, out);
-    flush(sink, k.at, out)?;
-    Ok(k)
-}
-
-// The closing line: the ledger's view of the journal beside the meter's.
-fn close(desk: Desk, out: &mut [u8]) -> usize
-    requires { 320 ≤ length out.old }
-    ensures { result ≤ 320 }
-{
-    let b = desk.book;
-    let balance = desk.meter.machine.registers.account.balance;
-    let recharged = b.recharged;
-    report::closing_line(recharged, balance, b.sum(), out)
-}
-
-// A last line without its end.
-fn play_rest(
-    sink: &mut impl Write,
-    s: Spot,
-    rest: &[u8],
-    room: &mut [u8],
-    out: &mut [u8],
-) -> io::Result<Spot>
-    requires rest_len_bound { length rest.now ≤ 2 * length room.old }
-    requires in_bounds { (320 ≤ length out.old) × (length out.old ≤ 65536) }
-{
-    if rest.len() == 0 {
-        return Ok(s);
-    }
-    let t = play_line(s, 0, rest, room, out);
-    flush(sink, t.at, out)?;
-    Ok(t.spot)
-}
-
-// The end of the input: its last line, and the closing line.
-fn finish(
-    sink: &mut impl Write,
-    s: Spot,
-    rest: &[u8],
-    room: &mut [u8],
-    out: &mut [u8],
-) -> io::Result<()>
-    requires rest_len_bound { length rest.now ≤ 2 * length room.old }
-    requires in_bounds { (320 ≤ length out.old) × (length out.old ≤ 65536) }
-{
-    let e = play_rest(sink, s, rest, room, out)?;
-    let k = close(e.desk, out);
-    flush(sink, k, out)
-}
-
-// A proved loop has to end, and nothing says that the input does. So it counts its turns, up to a
-// number that no run uses up.
-fn play_all(
-    source: &mut impl Read,
-    sink: &mut impl Write,
-    input: &mut [u8],
-    room: &mut [u8],
-    out: &mut [u8],
-) -> io::Result<()>
-    requires input_len_bound { (length input.old ≤ 2 * length room.old) × (length input.old ≤ 65536) }
-    requires in_bounds { (320 ≤ length out.old) × (length out.old ≤ 65536) }
-{
-    let mut spot = Spot {
-        desk: Desk::new(),
-        lines: 0,
-        skipping: false,
-    };
-    let mut held = 0usize;
-    for _ in 0..u64::MAX {
-        let got = read_behind(source, input, held)?;
-        if got == 0 {
-            break;
+            room: [0; CAPACITY / 2],
+            answers: Answers {
+                bytes: [0; CAPACITY],
+                used: 0,
+            },
         }
-        let t = play_some(sink, spot, held + got, input, room, out)?;
-        spot = t.spot;
-        held = t.input;
     }
-    finish(sink, spot, &input[..held], room, out)
+
+    // Plays one line; the end of a line that was too long is passed over.
+    fn play_line(&mut self, line: &[u8])
+        requires line_len_bound { length line.now ≤ capacity }
+        requires room { HasRoom self.old.answers.used }
+    {
+        self.lines = self.lines.saturating_add(1);
+        if self.skipping {
+            self.skipping = false;
+            return;
+        }
+        let at = self.answers.used;
+        let out = &mut self.answers.bytes[at..];
+        let worked = clerk::work(self.desk, self.lines, line, &mut self.room, out);
+        self.desk = worked.desk;
+        self.answers.used = at + worked.length;
+    }
+
+    // Plays the whole lines of the input, and says how far they go. The loop keeps two places: over the
+    // parts of a split it would have to add up how far it is, and tell a last part that has no end.
+    fn play_lines(&mut self, sink: &mut impl Write, input: &[u8]) -> io::Result<usize>
+        requires { length input.now ≤ capacity }
+        ensures { IfOk result (λ from. from ≤ length input.now) }
+    {
+        let mut from = 0;
+        let mut end = lines::line_end(input, from);
+        while end < input.len() {
+            self.answers.make_room(sink)?;
+            self.play_line(&input[from..end]);
+            from = end + 1;
+            end = lines::line_end(input, from);
+        }
+        Ok(from)
+    }
+
+    // What is left of the input is held for the next read, but for a line that is too long: it is
+    // answered once, and passed over up to its end.
+    fn keep(&mut self, left: usize) -> usize
+        requires { HasRoom self.old.answers.used }
+        ensures { result ≤ left }
+    {
+        if self.skipping {
+            return 0;
+        }
+        if left < CAPACITY {
+            return left;
+        }
+        let at = self.answers.used;
+        let number = self.lines.saturating_add(1);
+        let out = &mut self.answers.bytes[at..];
+        self.answers.used = at + report::error_line(number, Fault::TooLong, out);
+        self.skipping = true;
+        0
+    }
+
+    // The lines that a read completes, answered before the next; `have` bytes are there.
+    fn play_some(
+        &mut self,
+        sink: &mut impl Write,
+        input: &mut [u8],
+        have: usize,
+    ) -> io::Result<usize>
+        requires input_len_bound { length input.old ≤ capacity }
+        requires have_in_bounds { have ≤ length input.old }
+        ensures { IfOk result (λ held. held ≤ length input.old) }
+    {
+        let from = self.play_lines(sink, &input[..have])?;
+        lines::shift(input, from, have);
+        self.answers.make_room(sink)?;
+        let held = self.keep(have - from);
+        self.answers.flush(sink)?;
+        Ok(held)
+    }
+
+    // The closing line: the ledger's view of the journal beside the meter's.
+    fn close(&mut self)
+        requires { self.old.answers.used ≡ 0 }
+    {
+        let book = self.desk.book;
+        let balance = self.desk.meter.machine.registers.account.balance;
+        let out = &mut self.answers.bytes;
+        self.answers.used = report::closing_line(book.recharged, balance, book.sum(), out);
+    }
+
+    // The end of the input: a last line without its end, and the closing line.
+    fn finish(&mut self, sink: &mut impl Write, rest: &[u8]) -> io::Result<()>
+        requires { length rest.now ≤ capacity }
+    {
+        if !rest.is_empty() {
+            self.answers.make_room(sink)?;
+            self.play_line(rest);
+        }
+        self.answers.flush(sink)?;
+        self.close();
+        self.answers.flush(sink)
+    }
+
+    // A proved loop has to end, and nothing says that the input does. So it counts its turns, up to a
+    // number that no run uses up.
+    fn play_all(&mut self, source: &mut impl Read, sink: &mut impl Write) -> io::Result<()> {
+        let mut input = [0; CAPACITY];
+        let mut held = 0;
+        for _ in 0..u64::MAX {
+            let got = source.read(&mut input[held..])?;
+            if got == 0 {
+                break;
+            }
+            held = self.play_some(sink, &mut input, held + got)?;
+        }
+        self.finish(sink, &input[..held])
+    }
 }
 
 fn main(rt: HostRuntime) -> io::Result<()> {
-    let mut input = [0u8; 65_536];
-    let mut room = [0u8; 32_768];
-    let mut out = [0u8; 65_536];
-    play_all(
-        &mut rt.stdin(),
-        &mut rt.stdout(),
-        &mut input,
-        &mut room,
-        &mut out,
-    )
+    Player::new().play_all(&mut rt.stdin(), &mut rt.stdout())
 }

@@ -1,52 +1,39 @@
--- Whether recharged minus balance is the ledger sum, from the balance's sign and size. Assumes nothing.
-use mathlib.Core.Path.{◌≡◌, refl, sym, ◌∙◌}
-use mathlib.Core.Bool.{true, false}
-use Prim.Native.Nat.{ℕ, suc, ◌+◌}
+-- Recharged minus balance in words of 128 bits: two numbers are the same where their words are. Assumes nothing.
+use mathlib.Core.Path.{◌≡◌, sym, ap, ◌∙◌}
+use Prim.Native.Nat.{ℕ, ◌+◌, ◌<◌, ◌≤◌, ◌^◌}
 use native.Mathlib.Omega.{arith}
-use native.Mathlib.Nat.{add-zero}
 use lib.Dec.{eqb}
-use lib.IntN.{ℤ, pos, negsuc, nat_abs, ◌-ℤ◌}
-use lib.Signed.{lt_z}
+use lib.IntN.{ℤ, pos, negsuc, ◌-ℤ◌}
+use mir.Syntax.{w64, w128}
+use mir.Val.{to_z, of_z, SFits}
+use mir.ValLaws.{to_z-of_z}
 use borrow.Author.Tests.{eq-eqb, ne_eqb, eqb-true, eqb-false}
-use Rattle.units.specs.declared.Charge.{Charge}
-use Rattle.units.specs.declared.Millionths.{Millionths}
-use Rattle.units.proofs.Integers.{up, dn, minus, lt-true, lt-false}
-use Rattle.report.specs.Closing.{is_number, agrees}
+use lib.Signed.{mag}
+use Rattle.units.proofs.Integers.{up, dn, minus, small}
+use Rattle.report.specs.Closing.{is_number}
 use Rattle.text.proofs.Digits.{cases}
 
--- two tests of one fact
-pub same_test : (m n p q : ℕ) → (m ≡ n → p ≡ q) → (p ≡ q → m ≡ n) → eqb m n ≡ eqb p q
-same_test m n p q f g =
-    cases (eqb p q)
-    (λ t. eq-eqb m n (g (eqb-true p q t)) ∙ sym t)
-    (λ t. ne_eqb m n (λ e. eqb-false p q t (f e)) ∙ sym t)
+back : (a b : ℤ) → SFits w128 a → SFits w128 b → of_z w128 a ≡ of_z w128 b → a ≡ b
+back a b f g e = sym (to_z-of_z w128 a f) ∙ ap (λ n. to_z w128 n) e ∙ to_z-of_z w128 b g
 
-number_is : (z : ℤ) (s : ℕ) → is_number z s ≡ eqb (up z) (s + dn z)
-number_is (pos m) s = rw add-zero
-number_is (negsuc m) s = sym (ne_eqb 0 (s + suc m) (λ e. omega arith))
+pub same_number : (z : ℤ) (s : ℕ) → SFits w128 z → SFits w128 (pos s) → eqb (of_z w128 z) (of_z w128 (pos s)) ≡ is_number z s
+same_number (pos m) s f g =
+    cases (eqb m s)
+    (λ t. eq-eqb _ _ (ap (λ n. of_z w128 (pos n)) (eqb-true m s t)) ∙ sym t)
+    (λ t. ne_eqb _ _ (λ e. let p = back (pos m) (pos s) f g e in eqb-false m s t (cc)) ∙ sym t)
+same_number (negsuc m) s f g = ne_eqb _ _ (λ e. let p = back (negsuc m) (pos s) f g e in cc)
 
-negative-is : (z : ℤ) → lt_z z (pos 0) ≡ true → (up z ≡ 0) × (dn z ≡ nat_abs z)
-negative-is (pos n) t = absurd (omega (arith, lt-true (pos n) (pos 0) t))
-negative-is (negsuc n) t = (refl, refl)
+ends : (z : ℤ) (m : ℕ) → mag z ≤ m → (up z ≤ m) × (dn z ≤ m + 1)
+ends (pos n) m h = (omega arith, omega arith)
+ends (negsuc n) m h = (omega arith, omega arith)
 
-positive-is : (z : ℤ) → lt_z z (pos 0) ≡ false → (up z ≡ nat_abs z) × (dn z ≡ 0)
-positive-is (pos n) t = (refl, refl)
-positive-is (negsuc n) t = absurd (omega (arith, lt-false (negsuc n) (pos 0) t))
-
--- the equation without a difference: recharged and the debt are the ledger sum, or the ledger sum and the credit are recharged
-module _ (r : Charge) (b : Millionths) (s : Charge) where
-  pub in-debt : lt_z b.0 (pos 0) ≡ true → eqb (r.0 + nat_abs b.0) s.0 ≡ agrees r b s
-  unfolding agrees
-  in-debt t =
-      let z = pos r.0 -ℤ b.0 in
-      let m = minus (pos r.0) b.0 in
-      let n = negative-is b.0 t in
-      same_test (r.0 + nat_abs b.0) s.0 (up z) (s.0 + dn z) (λ e. omega arith) (λ e. omega arith) ∙ sym (number_is z s.0)
-
-  pub in-credit : lt_z b.0 (pos 0) ≡ false → eqb (s.0 + nat_abs b.0) r.0 ≡ agrees r b s
-  unfolding agrees
-  in-credit t =
-      let z = pos r.0 -ℤ b.0 in
-      let m = minus (pos r.0) b.0 in
-      let n = positive-is b.0 t in
-      same_test (s.0 + nat_abs b.0) r.0 (up z) (s.0 + dn z) (λ e. omega arith) (λ e. omega arith) ∙ sym (number_is z s.0)
+pub difference : (r : ℕ) (b : ℤ) (s : ℕ) → r < 2 ^ 64 → SFits w64 b → s < 2 ^ 64
+    → eqb (of_z w128 (to_z w128 (of_z w128 (pos r)) -ℤ to_z w128 (of_z w128 (to_z w64 (of_z w64 b))))) (of_z w128 (pos s)) ≡ is_number (pos r -ℤ b) s
+difference r b s h f g =
+    let d = pos r -ℤ b in
+    let e = ends b (2 ^ 63) (omega (arith, f.sfits)) in
+    let fr : SFits w128 (pos r) = record { sfits = omega arith } in
+    let fs : SFits w128 (pos s) = record { sfits = omega arith } in
+    let fb : SFits w128 b = record { sfits = omega (arith, f.sfits) } in
+    let fd : SFits w128 d = record { sfits = small d (minus (pos r) b) (omega arith) (omega arith) } in
+    rw (to_z-of_z w64 b f, to_z-of_z w128 b fb, to_z-of_z w128 (pos r) fr) (same_number d s fd fs)

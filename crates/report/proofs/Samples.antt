@@ -2,26 +2,28 @@
 use mathlib.Core.Path.{◌≡◌, refl}
 use mathlib.Core.List.{[], ◌∷◌}
 use lib.IntN.{pos, negsuc}
+use Rattle.std.specs.Prelude.{Ok, Err}
 use Rattle.text.specs.Decimal.{decimal, digits_of, signed}
-use Rattle.text.specs.Hex.{hexadecimal, glyphs_of}
+use Rattle.text.specs.Hex.{hexadecimal}
 use Rattle.units.specs.Money.{money}
 use Rattle.units.specs.Volume.{volume, charge}
-use Rattle.query.specs.declared.Displayed.TheVariants.{Shows}
+use Rattle.answer.specs.declared.Refusal.TheVariants.{Pulses}
+use Rattle.script.specs.declared.Fault.TheVariants.{NotANumber}
 use Rattle.text.specs.Word.{letters}
-use Rattle.report.specs.Lines.{ok_line, refused_line, codes_text, display_line, record_text}
-use Rattle.report.specs.Closing.{closing_line, agrees}
+use Rattle.report.specs.Lines.{ok_line, refused_line, codes_text, call_line, display_line, display_text, record_text}
 use Rattle.report.specs.Errors.{error_line, fault_line, fault_text}
+use Rattle.report.specs.Closing.{closing_line, agrees}
 
-expiry : ok_line (record { count = 2; said = 0x80020012 ∷ 0x12 ∷ 0 ∷ 0 ∷ 0 ∷ 0 ∷ 0 ∷ 0 ∷ [] }) ≡ letters "ok 80020012 12\n"
-unfolding ok_line codes_text hexadecimal glyphs_of
+expiry : call_line (Ok (record { count = 2; said = 0x80020012 ∷ 0x12 ∷ 0 ∷ 0 ∷ 0 ∷ 0 ∷ 0 ∷ 0 ∷ [] })) ≡ letters "ok 80020012 12\n"
+unfolding ok_line codes_text hexadecimal digits_of
 expiry = refl
 
-too_many : refused_line 13 ≡ letters "refused 13\n"
+too_many : call_line (Err Pulses) ≡ letters "refused 13\n"
 unfolding refused_line decimal digits_of
 too_many = refl
 
-debt : display_line (Shows (record { 0 = negsuc 279 })) ≡ letters "-280\n"
-unfolding signed decimal digits_of
+debt : display_line (Ok (record { 0 = negsuc 279 })) ≡ letters "-280\n"
+unfolding display_text signed decimal digits_of
 debt = refl
 
 day : record_text (record { date = 20200131; volume = volume 2501; charge = charge 65031500; closing = money (pos 34968500) })
@@ -29,7 +31,7 @@ day : record_text (record { date = 20200131; volume = volume 2501; charge = char
 unfolding record_text signed decimal digits_of
 day = refl
 
-no_number : error_line 7 3 ≡ letters "error 7: not a decimal number\n"
+no_number : error_line 7 NotANumber ≡ letters "error 7: not a decimal number\n"
 unfolding error_line fault_line fault_text decimal digits_of
 no_number = refl
 

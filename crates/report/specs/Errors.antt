@@ -1,23 +1,23 @@
 -- The line of a journal line that is no call and no query: `error`, its number and what is wrong.
-use Rattle.std.specs.Prelude.{cond, List, ◌++◌, ℕ, eqb}
+use Rattle.std.specs.Prelude.{List, ◌++◌, ℕ}
 use Rattle.text.specs.Decimal.{decimal}
 use Rattle.text.specs.Word.{letters}
+use Rattle.script.specs.declared.Fault.{Fault}
+use Rattle.script.specs.declared.Fault.TheVariants.{UnknownWord, WordCount, NotANumber, NotHex, Gap, TooLong}
 
--- what is wrong, by the number of the fault
-unfoldable pub fault_text : ℕ → List ℕ
-fault_text k =
-    cond (eqb k 1)
-    (letters "unknown word; the words are pulse, recharge, plan, alarms, command, key, tick, step, display, day, month, heavy, show")
-    (cond (eqb k 2) (letters "wrong number of words")
-    (cond (eqb k 3) (letters "not a decimal number")
-    (cond (eqb k 4) (letters "record not in pairs of hexadecimal digits")
-    (cond (eqb k 5) (letters "words must be parted by single spaces")
-    (cond (eqb k 6) (letters "line longer than 65,535 bytes")
-    (letters "not understood"))))))
+-- what is wrong
+unfoldable pub fault_text : Fault → List ℕ
+fault_text UnknownWord =
+    letters "unknown word; the words are pulse, recharge, plan, alarms, command, key, tick, step, display, day, month, heavy, show"
+fault_text WordCount = letters "wrong number of words"
+fault_text NotANumber = letters "not a decimal number"
+fault_text NotHex = letters "record not in pairs of hexadecimal digits"
+fault_text Gap = letters "words must be parted by single spaces"
+fault_text TooLong = letters "line longer than 65,535 bytes"
 
 -- a colon and what is wrong
-unfoldable pub fault_line : ℕ → List ℕ
-fault_line k = letters ": " ++ (fault_text k ++ letters "\n")
+unfoldable pub fault_line : Fault → List ℕ
+fault_line f = letters ": " ++ (fault_text f ++ letters "\n")
 
-unfoldable pub error_line : ℕ → ℕ → List ℕ
+unfoldable pub error_line : ℕ → Fault → List ℕ
 error_line line fault = letters "error " ++ (decimal line ++ fault_line fault)

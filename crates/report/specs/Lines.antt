@@ -1,23 +1,17 @@
 -- The lines of a call and of a query: what it answered, or the word `refused` and the number.
-use Rattle.std.specs.Prelude.{List, [], ◌∷◌, ◌++◌, ℕ}
+use Rattle.std.specs.Prelude.{List, [], ◌∷◌, ◌++◌, ℕ, Result, Ok, Err}
 use Rattle.text.specs.Decimal.{decimal}
 use Rattle.text.specs.Hex.{hexadecimal}
 use Rattle.text.specs.Word.{letters}
 use Rattle.place.specs.Value.{integer}
-use Rattle.answer.specs.declared.Answer.{Answer}
-use Rattle.answer.specs.declared.Answer.TheVariants.{Accepted, Refused}
+use Rattle.units.specs.declared.Shown.{Shown}
+use Rattle.answer.specs.declared.Refusal.{Refusal}
+use Rattle.answer.specs.Answer.{number_of}
 use Rattle.account.specs.declared.Codes.{Codes}
 use Rattle.account.specs.Codes.{told}
-use Rattle.meter.specs.declared.Done.{Done}
-use Rattle.slots.specs.declared.Stepped.{Stepped}
-use Rattle.slots.specs.declared.Stepped.TheVariants.{At, Refused as NoStep}
-use Rattle.query.specs.declared.Displayed.{Displayed}
-use Rattle.query.specs.declared.Displayed.TheVariants.{Shows, Refused as NotShown}
+use Rattle.plan.specs.declared.StepPrice.{StepPrice}
 use Rattle.records.specs.declared.Record.{Record}
-use Rattle.records.specs.declared.Fetched.{Fetched}
-use Rattle.records.specs.declared.Fetched.TheVariants.{Held, Refused as NotHeld}
-use Rattle.records.specs.declared.Heavy.{Heavy}
-use Rattle.records.specs.declared.Heavy.TheVariants.{Day, NoDay}
+use Rattle.records.specs.declared.PlacedRecord.{PlacedRecord}
 
 unfoldable pub refused_line : ℕ → List ℕ
 refused_line n = letters "refused " ++ (decimal n ++ letters "\n")
@@ -31,23 +25,13 @@ codes_text (c ∷ cs) = letters " " ++ (hexadecimal c ++ codes_text cs)
 unfoldable pub ok_line : Codes → List ℕ
 ok_line k = letters "ok" ++ (codes_text (told k) ++ letters "\n")
 
-abbrev pub answer_line : Answer → Codes → List ℕ
-answer_line Accepted k = ok_line k
-answer_line (Refused n) k = refused_line n
+-- the step's number and its price in ten-thousandths of a yuan
+unfoldable pub step_text : StepPrice → List ℕ
+step_text s = decimal s.number ++ (letters " " ++ (decimal s.price.0 ++ letters "\n"))
 
--- the line of a call
-unfoldable pub call_line : Done → List ℕ
-call_line d = answer_line d.answer d.codes
-
--- the line of the step query: the step's number and its price in ten-thousandths of a yuan
-abbrev pub step_line : Stepped → List ℕ
-step_line (At s) = decimal s.number ++ (letters " " ++ (decimal s.price.0 ++ letters "\n"))
-step_line (NoStep n) = refused_line n
-
--- the line of the display query: ten-thousandths of a yuan
-abbrev pub display_line : Displayed → List ℕ
-display_line (Shows s) = integer s.0 ++ letters "\n"
-display_line (NotShown n) = refused_line n
+-- what the display shows, in ten-thousandths of a yuan
+unfoldable pub display_text : Shown → List ℕ
+display_text s = integer s.0 ++ letters "\n"
 
 -- a day or month record: date, volume in hundredths, charge and closing balance in millionths of a yuan
 unfoldable pub record_text : Record → List ℕ
@@ -58,12 +42,31 @@ record_text r =
     ++ (letters " " ++ (integer r.closing.0
     ++ letters "\n"))))))
 
--- the line of a day or month query
-abbrev pub record_line : Fetched → List ℕ
-record_line (Held r) = record_text r
-record_line (NotHeld n) = refused_line n
+-- a heavy day: its number in front of its record
+unfoldable pub heavy_text : PlacedRecord → List ℕ
+heavy_text d = decimal d.place ++ (letters " " ++ record_text d.held)
 
--- the line of the heavy-day query: the day's number in front
-abbrev pub heavy_line : Heavy → List ℕ
-heavy_line (Day k r) = decimal k ++ (letters " " ++ record_text r)
-heavy_line (NoDay n) = refused_line n
+-- the line of an answer, by the text of what may be answered
+abbrev pub answer_line : {T : Type 0} → (T → List ℕ) → Result T Refusal → List ℕ
+answer_line text (Ok v) = text v
+answer_line text (Err n) = refused_line (number_of n)
+
+-- the line of a call
+abbrev pub call_line : Result Codes Refusal → List ℕ
+call_line = answer_line ok_line
+
+-- the line of the step query
+abbrev pub step_line : Result StepPrice Refusal → List ℕ
+step_line = answer_line step_text
+
+-- the line of the display query
+abbrev pub display_line : Result Shown Refusal → List ℕ
+display_line = answer_line display_text
+
+-- the line of a day or month query
+abbrev pub record_line : Result Record Refusal → List ℕ
+record_line = answer_line record_text
+
+-- the line of the heavy-day query
+abbrev pub heavy_line : Result PlacedRecord Refusal → List ℕ
+heavy_line = answer_line heavy_text

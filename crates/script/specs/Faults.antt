@@ -1,23 +1,27 @@
--- What is wrong with a line: the first of the faults 1 to 5, whose texts are in report/specs/Errors.antt. Fault 6, a line longer than the program's
--- buffer, is found where lines are read.
-use Rattle.std.specs.Prelude.{Bool, cond, not, ◌||◌, List, ℕ, eqb, leb}
+-- What is wrong with a line: the first of the faults of a content, whose texts are in report/specs/Errors.antt. The last fault, a line longer
+-- than the program's buffer, is found where lines are read.
+use Rattle.std.specs.Prelude.{Bool, cond, not, ◌||◌, List, ℕ, eqb, leb, Option, Some, None, Result, Ok, Err}
 use Rattle.words.specs.Words.{word_at, words_behind, has_gap}
 use Rattle.words.specs.Numbers.{are_numbers}
 use Rattle.words.specs.Hex.{is_hex}
-use Rattle.script.specs.declared.Form.{Form}
-use Rattle.script.specs.declared.Verdict.{Verdict}
-use Rattle.script.specs.declared.Verdict.TheVariants.{Sound, Fault}
+use Rattle.script.specs.declared.forms.Form.{Form}
+use Rattle.script.specs.declared.Fault.{Fault}
+use Rattle.script.specs.declared.Fault.TheVariants.{UnknownWord, WordCount, NotANumber, NotHex, Gap}
+use Rattle.script.specs.Forms.{form_of}
 
 -- a test that must hold, and the fault where it does not
-abbrev pub need : Bool → ℕ → Verdict → Verdict
-need t n rest = cond t rest (Fault n)
+abbrev pub need : {T : Type 0} → Bool → Fault → Result T Fault → Result T Fault
+need t n rest = cond t rest (Err n)
 
--- the first fault of a content s that is to be made as f says
-unfoldable pub verdict_of : Form → List ℕ → Verdict
-verdict_of f s =
-    need (not (has_gap s)) 5
-    (need f.known 1
-    (need (eqb (words_behind s) f.words) 2
-    (need (are_numbers s f.numbers) 3
-    (need (leb f.words f.numbers || is_hex (word_at s f.words)) 4
-    Sound))))
+-- a form where the first word is known, and what else a content s must be that is to be made so
+abbrev pub made_as : Option Form → List ℕ → Result Form Fault
+made_as None s = Err UnknownWord
+made_as (Some f) s =
+    need (eqb (words_behind s) f.words) WordCount
+    (need (are_numbers s f.numbers) NotANumber
+    (need (leb f.words f.numbers || is_hex (word_at s f.words)) NotHex
+    (Ok f)))
+
+-- how a content s is made, or its first fault
+unfoldable pub form_in : List ℕ → Result Form Fault
+form_in s = need (not (has_gap s)) Gap (made_as (form_of (word_at s 0)) s)

@@ -1,61 +1,51 @@
 -- The words of a journal: what each asks for, and how its line is made.
-use Rattle.std.specs.Prelude.{true, false, cond, List, [], ◌∷◌, ℕ}
+use Rattle.std.specs.Prelude.{cond, List, [], ◌∷◌, ℕ, Option, Some, None}
+use Rattle.std.specs.Str.{bytes_eq}
 use Prim.Native.String.{String}
+use denote.Ref.{Bor}
 use Rattle.text.specs.Word.{letters}
-use Rattle.words.specs.Words.{same}
-use Rattle.script.specs.declared.Form.{Form}
-use Rattle.script.specs.declared.Kind.{Kind}
-use Rattle.script.specs.declared.Kind.TheVariants.{Pulse, Recharge, Plan, Alarms, Command, Key, Tick, Step, Display, Day, Month, Heavy, Show, Unknown}
+use Rattle.script.specs.declared.forms.Form.{Form}
+use Rattle.script.specs.declared.forms.Kind.{Kind}
+use Rattle.script.specs.declared.forms.Kind.TheVariants.{Pulse, Recharge, Plan, Alarms, Command, Key, Tick, Step, Display, Day, Month, Heavy, Show}
 
 -- a word, and the form of the lines that it begins
-pub record Entry : Type 0 where
+pub record Line : Type 0 where
   pub word : List ℕ
   pub form : Form
 
-abbrev pub entry : String → Form → Entry
-entry w f = record { word = letters w; form = f }
+abbrev pub line : String → Form → Line
+line w f = record { word = letters w; form = f }
+
+-- the same of a row of the code's table
+abbrev pub line_in : Bor (List ℕ) × Kind × ℕ × ℕ → Line
+line_in r = record { word = r.0.now; form = record { kind = r.1; words = r.2; numbers = r.3 } }
 
 -- so many numbers behind the first word, and nothing else
 abbrev pub plain : Kind → ℕ → Form
-plain k n = record { kind = k; known = true; words = n; numbers = n }
+plain k n = record { kind = k; words = n; numbers = n }
 
--- the table, in four parts, each with the next behind it: the questions by number
-unfoldable pub numbered : List Entry
-numbered =
-    entry "day" (plain Day 1)
-    ∷ (entry "month" (plain Month 1)
-    ∷ (entry "heavy" (plain Heavy 1)
-    ∷ []))
-
--- the other questions
-unfoldable pub questions : List Entry
-questions =
-    entry "step" (plain Step 0)
-    ∷ (entry "display" (plain Display 0)
-    ∷ (entry "show" (plain Show 0)
-    ∷ numbered))
-
--- the calls on the valve and the clock
-unfoldable pub valves : List Entry
-valves =
-    entry "command" (plain Command 3)
-    ∷ (entry "key" (plain Key 2)
-    ∷ (entry "tick" (plain Tick 2)
-    ∷ questions))
-
--- the other calls; behind the numbers of a plan stands its record
-unfoldable pub entries : List Entry
+-- the table: the calls, of which a plan has its record behind the numbers, and the questions
+unfoldable pub entries : List Line
 entries =
-    entry "pulse" (plain Pulse 3)
-    ∷ (entry "recharge" (plain Recharge 4)
-    ∷ (entry "plan" (record { kind = Plan; known = true; words = 4; numbers = 3 })
-    ∷ (entry "alarms" (plain Alarms 4)
-    ∷ valves)))
+    line "pulse" (plain Pulse 3)
+    ∷ (line "recharge" (plain Recharge 4)
+    ∷ (line "plan" (record { kind = Plan; words = 4; numbers = 3 })
+    ∷ (line "alarms" (plain Alarms 4)
+    ∷ (line "command" (plain Command 3)
+    ∷ (line "key" (plain Key 2)
+    ∷ (line "tick" (plain Tick 2)
+    ∷ (line "step" (plain Step 0)
+    ∷ (line "display" (plain Display 0)
+    ∷ (line "show" (plain Show 0)
+    ∷ (line "day" (plain Day 1)
+    ∷ (line "month" (plain Month 1)
+    ∷ (line "heavy" (plain Heavy 1)
+    ∷ []))))))))))))
 
 -- the form that a table has for a word
-unfoldable pub form_in : List Entry → List ℕ → Form
-form_in [] w = record { kind = Unknown; known = false; words = 0; numbers = 0 }
-form_in (e ∷ es) w = cond (same w e.word) e.form (form_in es w)
+unfoldable pub form_by : List Line → List ℕ → Option Form
+form_by [] w = None
+form_by (e ∷ es) w = cond (bytes_eq e.word w) (Some e.form) (form_by es w)
 
-unfoldable pub form_of : List ℕ → Form
-form_of w = form_in entries w
+unfoldable pub form_of : List ℕ → Option Form
+form_of w = form_by entries w

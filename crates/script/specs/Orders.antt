@@ -1,21 +1,20 @@
 -- A journal's line: what it says, and the record that a plan brings.
-use Rattle.std.specs.Prelude.{cond, List, [], ◌∷◌, ℕ, leb, length}
+use Rattle.std.specs.Prelude.{cond, List, [], ◌∷◌, ℕ, leb, length, Result, Ok, Err}
 use Rattle.words.specs.Words.{content, word_at}
 use Rattle.words.specs.Numbers.{wide_at, narrow_at}
 use Rattle.words.specs.Hex.{bytes_of}
 use Rattle.units.specs.Volume.{volume, price}
 use Rattle.calendar.specs.declared.Stamp.{Stamp}
-use Rattle.script.specs.declared.Form.{Form}
-use Rattle.script.specs.declared.Kind.{Kind}
-use Rattle.script.specs.declared.Kind.TheVariants as kind
-use Rattle.script.specs.declared.Verdict.{Verdict}
-use Rattle.script.specs.declared.Verdict.TheVariants.{Sound, Fault}
+use Rattle.records.specs.declared.Shelf.TheVariants as shelf
+use Rattle.script.specs.declared.forms.Form.{Form}
+use Rattle.script.specs.declared.forms.Kind.{Kind}
+use Rattle.script.specs.declared.forms.Kind.TheVariants as kind
+use Rattle.script.specs.declared.Fault.{Fault}
 use Rattle.script.specs.declared.Order.{Order}
-use Rattle.script.specs.declared.Order.TheVariants.{Nothing, Call, Query, Show, Wrong}
-use Rattle.script.specs.declared.Query.TheVariants.{Step, Display, Day, Month, Heavy}
+use Rattle.script.specs.declared.Order.TheVariants.{Nothing, Call, Query, Show}
+use Rattle.script.specs.declared.Query.TheVariants.{Step, Display, Record, Heavy}
 use Rattle.meter.specs.declared.Call.TheVariants as call
-use Rattle.script.specs.Forms.{form_of}
-use Rattle.script.specs.Faults.{verdict_of}
+use Rattle.script.specs.Faults.{form_in}
 
 -- DATE SECOND: the first two numbers of a call
 unfoldable pub stamp_in : List ℕ → Stamp
@@ -32,41 +31,34 @@ said_by kind.Key s = Call (call.Key (record { stamp = stamp_in s })) 0
 said_by kind.Tick s = Call (call.Tick (record { stamp = stamp_in s })) 0
 said_by kind.Step s = Query Step
 said_by kind.Display s = Query Display
-said_by kind.Day s = Query (Day (wide_at s 1))
-said_by kind.Month s = Query (Month (wide_at s 1))
+said_by kind.Day s = Query (Record shelf.Day (wide_at s 1))
+said_by kind.Month s = Query (Record shelf.Month (wide_at s 1))
 said_by kind.Heavy s = Query (Heavy (volume (narrow_at s 1)))
 said_by kind.Show s = Show
-said_by kind.Unknown s = Wrong 1
 
 -- the record of a plan, the word behind its numbers; any other line has none
 unfoldable pub record_by : Form → List ℕ → List ℕ
 record_by f s = cond (leb f.words f.numbers) [] (bytes_of (word_at s f.words))
 
-abbrev pub order_by : Verdict → Form → List ℕ → Order
-order_by Sound f s = said_by f.kind s
-order_by (Fault n) f s = Wrong n
+abbrev pub order_by : Result Form Fault → List ℕ → Result Order Fault
+order_by (Ok f) s = Ok (said_by f.kind s)
+order_by (Err n) s = Err n
 
-abbrev pub bytes_by : Verdict → Form → List ℕ → List ℕ
-bytes_by Sound f s = record_by f s
-bytes_by (Fault n) f s = []
+abbrev pub bytes_by : Result Form Fault → List ℕ → List ℕ
+bytes_by (Ok f) s = record_by f s
+bytes_by (Err n) s = []
 
 -- the same of a content: an empty one says nothing
-abbrev pub first_form : List ℕ → Form
-first_form s = form_of (word_at s 0)
-
-abbrev pub verdict_in : List ℕ → Verdict
-verdict_in s = verdict_of (first_form s) s
-
-unfoldable pub order_in : List ℕ → Order
-order_in [] = Nothing
-order_in (x ∷ l) = order_by (verdict_in (x ∷ l)) (first_form (x ∷ l)) (x ∷ l)
+unfoldable pub order_in : List ℕ → Result Order Fault
+order_in [] = Ok Nothing
+order_in (x ∷ l) = order_by (form_in (x ∷ l)) (x ∷ l)
 
 unfoldable pub record_in : List ℕ → List ℕ
 record_in [] = []
-record_in (x ∷ l) = bytes_by (verdict_in (x ∷ l)) (first_form (x ∷ l)) (x ∷ l)
+record_in (x ∷ l) = bytes_by (form_in (x ∷ l)) (x ∷ l)
 
 -- what a line says
-unfoldable pub order_of : List ℕ → Order
+unfoldable pub order_of : List ℕ → Result Order Fault
 order_of line = order_in (content line)
 
 -- the record in it

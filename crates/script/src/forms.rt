@@ -1,98 +1,69 @@
-// The table of the words, an entry for each: what it asks for, and how its line is made.
-ghost use Rattle.std.specs.Prelude.{◌≡◌};
-ghost use Rattle.script.specs.Forms.{plain, form_in, valves, questions, numbered, form_of};
+// The words that begin a line: what each asks for, and how its line is made.
+ghost use Rattle.std.specs.Prelude.{◌≡◌, map};
+ghost use Rattle.script.specs.Forms.{line_in, form_by, form_of};
 
-use crate::{Form, Kind};
+// What a first word asks for.
+#[derive(Clone, Copy)]
+pub enum Kind {
+    Pulse,
+    Recharge,
+    Plan,
+    Alarms,
+    Command,
+    Key,
+    Tick,
+    Step,
+    Display,
+    Show,
+    Day,
+    Month,
+    Heavy,
+}
 
-// So many numbers behind the first word, and nothing else.
-fn plain(kind: Kind, numbers: usize) -> Form
-    ensures { result ≡ plain kind numbers }
+// How a line is made: what its first word asks for, how many words follow it, and how many of these
+// are decimal numbers. The one behind them is the record of a plan.
+#[derive(Clone, Copy)]
+pub struct Form {
+    pub kind: Kind,
+    pub words: usize,
+    pub numbers: usize,
+}
+
+// A word, what it asks for, how many words follow it, and how many of these are numbers.
+type Row = (&'static [u8], Kind, usize, usize);
+
+const TABLE: [Row; 13] = [
+    (b"pulse", Kind::Pulse, 3, 3),
+    (b"recharge", Kind::Recharge, 4, 4),
+    (b"plan", Kind::Plan, 4, 3),
+    (b"alarms", Kind::Alarms, 4, 4),
+    (b"command", Kind::Command, 3, 3),
+    (b"key", Kind::Key, 2, 2),
+    (b"tick", Kind::Tick, 2, 2),
+    (b"step", Kind::Step, 0, 0),
+    (b"display", Kind::Display, 0, 0),
+    (b"show", Kind::Show, 0, 0),
+    (b"day", Kind::Day, 1, 1),
+    (b"month", Kind::Month, 1, 1),
+    (b"heavy", Kind::Heavy, 1, 1),
+];
+
+// The form that a table has for a word.
+fn form_by(table: &[Row], w: &[u8]) -> Option<Form>
+    ensures { result ≡ form_by (map line_in table.now) w.now }
 {
-    Form {
+    let (_, kind, words, numbers) = *table.iter().find(|row| row.0 == w)?;
+    Some(Form {
         kind,
-        known: true,
-        words: numbers,
+        words,
         numbers,
-    }
+    })
 }
 
-// The questions by number.
-#[tactic(auto, unfolding(crate::specs::Forms::form_in, crate::specs::Forms::numbered))]
-fn numbered_form(w: &[u8]) -> Form
-    ensures { result ≡ form_in numbered w.now }
-{
-    if words::same(w, b"day") {
-        return plain(Kind::Day, 1);
-    }
-    if words::same(w, b"month") {
-        return plain(Kind::Month, 1);
-    }
-    if words::same(w, b"heavy") {
-        return plain(Kind::Heavy, 1);
-    }
-    Form {
-        kind: Kind::Unknown,
-        known: false,
-        words: 0,
-        numbers: 0,
-    }
-}
-
-// The other questions.
-#[tactic(auto, unfolding(crate::specs::Forms::form_in, crate::specs::Forms::questions))]
-fn question_form(w: &[u8]) -> Form
-    ensures { result ≡ form_in questions w.now }
-{
-    if words::same(w, b"step") {
-        return plain(Kind::Step, 0);
-    }
-    if words::same(w, b"display") {
-        return plain(Kind::Display, 0);
-    }
-    if words::same(w, b"show") {
-        return plain(Kind::Show, 0);
-    }
-    numbered_form(w)
-}
-
-// The calls on the valve and the clock.
-#[tactic(auto, unfolding(crate::specs::Forms::form_in, crate::specs::Forms::valves))]
-fn valve_form(w: &[u8]) -> Form
-    ensures { result ≡ form_in valves w.now }
-{
-    if words::same(w, b"command") {
-        return plain(Kind::Command, 3);
-    }
-    if words::same(w, b"key") {
-        return plain(Kind::Key, 2);
-    }
-    if words::same(w, b"tick") {
-        return plain(Kind::Tick, 2);
-    }
-    question_form(w)
-}
-
-// The other calls, and behind them all the rest.
-#[tactic(auto, unfolding(crate::specs::Forms::form_of, crate::specs::Forms::form_in, crate::specs::Forms::entries))]
-pub fn form_of(w: &[u8]) -> Form
+// The same of the table above.
+#[tactic(auto, unfolding(crate::specs::Forms::form_of, crate::specs::Forms::entries, crate::specs::Forms::form_by))]
+pub fn form_of(w: &[u8]) -> Option<Form>
     ensures { result ≡ form_of w.now }
 {
-    if words::same(w, b"pulse") {
-        return plain(Kind::Pulse, 3);
-    }
-    if words::same(w, b"recharge") {
-        return plain(Kind::Recharge, 4);
-    }
-    if words::same(w, b"plan") {
-        return Form {
-            kind: Kind::Plan,
-            known: true,
-            words: 4,
-            numbers: 3,
-        };
-    }
-    if words::same(w, b"alarms") {
-        return plain(Kind::Alarms, 4);
-    }
-    valve_form(w)
+    form_by(&TABLE, w)
 }

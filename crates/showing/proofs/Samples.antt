@@ -3,7 +3,8 @@ use mathlib.Core.Path.{◌≡◌, refl}
 use lib.IntN.{pos, negsuc}
 use Rattle.text.specs.Decimal.{decimal, digits_of}
 use Rattle.units.specs.Volume.{volume, price, charge}
-use Rattle.slots.specs.declared.Stepped.TheVariants.{At, Refused}
+use Rattle.std.specs.Prelude.{Ok, Err}
+use Rattle.answer.specs.declared.Refusal.TheVariants.{NoPlan}
 use Rattle.text.specs.Word.{letters}
 use Rattle.place.specs.Value.{fixed, last_digits}
 use Rattle.showing.specs.Show.{balance_shown, usage_shown, step_shown, day_shown}
@@ -20,11 +21,11 @@ usage : usage_shown 2501 ≡ letters "usage 25.01 m3 in this cycle\n"
 unfolding usage_shown fixed last_digits decimal digits_of
 usage = refl
 
-second : step_shown (At (record { number = 2; price = price 31500 })) ≡ letters "step 2 at 3.1500 yuan a m3\n"
+second : step_shown (Ok (record { number = 2; price = price 31500 })) ≡ letters "step 2 at 3.1500 yuan a m3\n"
 unfolding step_shown fixed last_digits decimal digits_of
 second = refl
 
-none : step_shown (Refused 24) ≡ letters "step none, no plan in force\n"
+none : step_shown (Err NoPlan) ≡ letters "step none, no plan in force\n"
 unfolding step_shown
 none = refl
 

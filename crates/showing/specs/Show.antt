@@ -1,12 +1,13 @@
 -- The lines that show a meter in plain words and units: balance, usage, step, valve, mark and open day.
-use Rattle.std.specs.Prelude.{cond, List, ◌++◌, ℕ, eqb, ℤ, pos, nat_abs}
+use Rattle.std.specs.Prelude.{cond, List, ◌++◌, ℕ, eqb, ℤ, pos, nat_abs, Result, Ok, Err}
 use Rattle.std.specs.Int.Signed.{lt_z}
 use Rattle.text.specs.Decimal.{decimal}
 use Rattle.text.specs.Word.{letters}
 use Rattle.place.specs.Value.{fixed}
 use Rattle.account.specs.declared.Valve.{Valve}
-use Rattle.slots.specs.declared.Stepped.{Stepped}
-use Rattle.slots.specs.declared.Stepped.TheVariants.{At, Refused}
+use Rattle.answer.specs.declared.Refusal.{Refusal}
+use Rattle.answer.specs.Answer.{number_of}
+use Rattle.plan.specs.declared.StepPrice.{StepPrice}
 use Rattle.records.specs.declared.Tally.{Tally}
 use Rattle.state.specs.State.{State}
 use Rattle.query.specs.Queries.{step_answer}
@@ -20,12 +21,13 @@ balance_shown b =
 unfoldable pub usage_shown : ℕ → List ℕ
 usage_shown v = letters "usage " ++ (fixed 2 v ++ letters " m3 in this cycle\n")
 
--- the answer to the step query; refusal 24 is that no plan is in force, and refusal 0 that the meter is out of its bounds
-unfoldable pub step_shown : Stepped → List ℕ
-step_shown (At s) =
+-- the answer to the step query; no plan in force is refusal 24, and a meter out of its bounds refusal 0
+unfoldable pub step_shown : Result StepPrice Refusal → List ℕ
+step_shown (Ok s) =
     letters "step " ++ (decimal s.number ++ (letters " at " ++ (fixed 4 s.price.0 ++ letters " yuan a m3\n")))
-step_shown (Refused n) =
-    cond (eqb n 24) (letters "step none, no plan in force\n") (letters "step refused " ++ (decimal n ++ letters "\n"))
+step_shown (Err n) =
+    cond (eqb (number_of n) 24) (letters "step none, no plan in force\n")
+    (letters "step refused " ++ (decimal (number_of n) ++ letters "\n"))
 
 unfoldable pub valve_shown : Valve → List ℕ
 valve_shown v =

@@ -2,102 +2,104 @@
 // buffer.
 #![tactic(auto)]
 
-ghost use Rattle.std.specs.Prelude.{◌+◌, ◌≤◌, length};
+ghost use Rattle.std.specs.Prelude.{◌≡◌, ◌+◌, ◌≤◌, length, Err};
 ghost use Rattle.text.specs.Written.{Written};
-ghost use Rattle.place.specs.Place.{Placed};
+ghost use Rattle.place.specs.Place.{HasRoom, Placed, line_room};
 ghost use Rattle.state.specs.State.{state_of};
 ghost use Rattle.showing.specs.Show.{balance_shown, usage_shown, step_shown, valve_shown, day_shown, show_lines};
 
 use account::Valve;
-use place::Value;
+use answer::Refusal;
+use place::{Page, Value};
+use plan::StepPrice;
 use records::Tally;
 use records::held::Words;
-use slots::Stepped;
 use state::Registers;
-use units::{Charge, Hundredths, Millionths};
+use units::{Charge, Hundredths, Millionths, Signed};
 
-// The lines that show a meter, each at a place: the balance.
-fn balance_at(b: Millionths, at: usize, out: &mut [u8]) -> usize
-    requires { at + 42 ≤ length out.old }
-    ensures { Placed at (balance_shown b.0) 42 out.old result out.new }
+// The lines that show a meter: the balance.
+fn put_balance(b: Millionths, page: &mut Page<'_>)
+    requires { HasRoom 42 page.old }
+    ensures { Placed (balance_shown b.0) 42 page.old page.new }
 {
-    let w = place::word(b"balance ", at, out);
-    let m = place::either(b.negative(), b"-", b"", w, out);
-    let n = place::item(b"", Value::Money(Charge(b.size())), m, out);
-    place::word(b" yuan\n", n, out)
+    page.word(b"balance ");
+    page.either(b.negative(), b"-", b"");
+    page.item(b"", Value::Money(Charge(b.size())));
+    page.word(b" yuan\n");
 }
 
 // The usage.
-fn usage_at(v: Hundredths, at: usize, out: &mut [u8]) -> usize
-    requires { at + 51 ≤ length out.old }
-    ensures { Placed at (usage_shown v.0) 51 out.old result out.new }
+fn put_usage(v: Hundredths, page: &mut Page<'_>)
+    requires { HasRoom 51 page.old }
+    ensures { Placed (usage_shown v.0) 51 page.old page.new }
 {
-    let n = place::item(b"usage ", Value::Volume(v), at, out);
-    place::word(b" m3 in this cycle\n", n, out)
+    page.item(b"usage ", Value::Volume(v));
+    page.word(b" m3 in this cycle\n");
 }
 
-// No step: refusal 24 is that no plan is in force.
-fn unstepped_at(k: u8, at: usize, out: &mut [u8]) -> usize
-    requires { at + 74 ≤ length out.old }
-    ensures { Placed at (step_shown (Stepped.Refused k)) 74 out.old result out.new }
+// Why there is no step.
+fn put_refusal(refusal: Refusal, page: &mut Page<'_>)
+    requires { HasRoom 74 page.old }
+    ensures { Placed (step_shown (Err refusal)) 74 page.old page.new }
 {
-    if k == 24 {
-        return place::word(b"step none, no plan in force\n", at, out);
-    }
-    let n = place::item(b"step refused ", Value::Whole(k as u64), at, out);
-    place::word(b"\n", n, out)
-}
-
-// The step.
-fn step_at(s: Stepped, at: usize, out: &mut [u8]) -> usize
-    requires { at + 74 ≤ length out.old }
-    ensures { Placed at (step_shown s) 74 out.old result out.new }
-{
-    match s {
-        Stepped::Refused(k) => unstepped_at(k, at, out),
-        Stepped::At(p) => {
-            let price = p.price;
-            let n = place::item(b"step ", Value::Whole(p.number as u64), at, out);
-            let e = place::item(b" at ", Value::Price(price), n, out);
-            place::word(b" yuan a m3\n", e, out)
+    match refusal {
+        Refusal::NoPlan => page.word(b"step none, no plan in force\n"),
+        _ => {
+            page.item(b"step refused ", Value::Whole(u64::from(u8::from(refusal))));
+            page.word(b"\n");
         }
     }
 }
 
-// The valve and the mark, a line each.
-fn valve_at(v: Valve, at: usize, out: &mut [u8]) -> usize
-    requires { at + 47 ≤ length out.old }
-    ensures { Placed at (valve_shown v) 47 out.old result out.new }
+// The step.
+fn put_step(step: Result<StepPrice, Refusal>, page: &mut Page<'_>)
+    requires { HasRoom 74 page.old }
+    ensures { Placed (step_shown step) 74 page.old page.new }
 {
-    let n = place::either(v.opened, b"valve open\n", b"valve closed\n", at, out);
-    place::either(v.allow, b"mark allow\n", b"mark forbid\n", n, out)
+    match step {
+        Ok(p) => {
+            page.item(b"step ", Value::Whole(u64::from(p.number)));
+            page.item(b" at ", Value::Price(p.price));
+            page.word(b" yuan a m3\n");
+        }
+        Err(refusal) => put_refusal(refusal, page),
+    }
+}
+
+// The valve and the mark, a line each.
+fn put_valve(v: Valve, page: &mut Page<'_>)
+    requires { HasRoom 47 page.old }
+    ensures { Placed (valve_shown v) 47 page.old page.new }
+{
+    page.either(v.opened, b"valve open\n", b"valve closed\n");
+    page.either(v.allow, b"mark allow\n", b"mark forbid\n");
 }
 
 // The open day, of the clock's date.
-fn day_at(date: u32, t: Tally, at: usize, out: &mut [u8]) -> usize
-    requires { at + 103 ≤ length out.old }
-    ensures { Placed at (day_shown date t) 103 out.old result out.new }
+fn put_day(date: u32, t: Tally, page: &mut Page<'_>)
+    requires { HasRoom 103 page.old }
+    ensures { Placed (day_shown date t) 103 page.old page.new }
 {
     if date == 0 {
-        return place::word(b"open day none, no accepted call yet\n", at, out);
+        page.word(b"open day none, no accepted call yet\n");
+        return;
     }
-    let volume = t.volume;
-    let charge = t.charge;
-    let d = place::item(b"open day ", Value::Whole(date as u64), at, out);
-    let v = place::item(b": ", Value::Volume(volume), d, out);
-    let c = place::item(b" m3, ", Value::Money(charge), v, out);
-    place::word(b" yuan\n", c, out)
+    page.item(b"open day ", Value::Whole(u64::from(date)));
+    page.item(b": ", Value::Volume(t.volume));
+    page.item(b" m3, ", Value::Money(t.charge));
+    page.word(b" yuan\n");
 }
 
 // A meter in plain words and units.
 pub fn show(r: Registers, words: &Words, out: &mut [u8]) -> usize
-    requires { 320 ≤ length out.old }
-    ensures { Written (show_lines (state_of r words.now)) 320 out.old result out.new }
+    requires { line_room ≤ length out.old }
+    ensures { Written (show_lines (state_of r words.now)) line_room out.old result out.new }
 {
-    let step = query::step(r, words);
-    let b = balance_at(r.account.balance, 0, out);
-    let u = usage_at(r.slots.usage, b, out);
-    let s = step_at(step, u, out);
-    let v = valve_at(r.valve, s, out);
-    day_at(r.clock.date, r.periods.day, v, out)
+    let mut page = Page::new(out);
+    put_balance(r.account.balance, &mut page);
+    put_usage(r.slots.usage, &mut page);
+    put_step(query::step(r, words), &mut page);
+    put_valve(r.valve, &mut page);
+    put_day(r.clock.date, r.periods.day, &mut page);
+    page.end()
 }

@@ -5,6 +5,8 @@ use Rattle.clerk.specs.Clerk.{Said}
 use Rattle.clerk.proofs.Halves.{answer}
 use Rattle.clerk.proofs.answered.Goals as goal
 
-pub returns-in-Nothing : goal.returns-in-Nothing
+pub returns-in-Ok-Nothing : goal.returns-in-Ok-Nothing
 unfolding Said
-returns-in-Nothing c = rw c.in-Nothing.is (answer (within refl (omega arith) (nothing c.args.out.now)) refl)
+returns-in-Ok-Nothing c =
+    let order = rw c.in-Ok-Nothing.is at c.in-Ok-Nothing.field-0-is in
+    rw (c.in-Ok-Nothing.is, order) (answer (within refl (omega arith) (nothing c.args.out.now)) refl)

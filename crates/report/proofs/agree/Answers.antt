@@ -1,12 +1,9 @@
--- A debt is what the ledger sum has above the recharges; a credit what the recharges have above it.
-use Rattle.std.proofs.Common.{sym, ◌∙◌}
-use Rattle.report.proofs.Agreeing.{in-debt, in-credit}
+-- The difference of two numbers of 64 bits fits 128.
+use Rattle.std.proofs.Common.{arith, rules, ap, ◌∙◌}
+use Rattle.report.specs.Closing.{agrees}
+use Rattle.report.proofs.Agreeing.{difference}
 use Rattle.report.proofs.agree.Goals as goal
 
-pub returns-then-negative : goal.returns-then-negative
-returns-then-negative c =
-    rw (c.exceeds.ensures, c.size-size.ensures) (in-debt _ c.args.balance _ (sym c.negative.ensures ∙ c.if-negative.true))
-
 pub returns : goal.returns
-returns c =
-    rw (c.exceeds-2.ensures, c.size-size.ensures) (in-credit _ c.args.balance _ (sym c.negative.ensures ∙ c.if-negative.false))
+unfolding agrees
+returns c = rw (c.from.ensures, c.from-2.ensures, c.from-3.ensures) (difference c.args.recharged.0 c.args.balance.0 c.args.ledger.0 (omega arith) (search (rules, c.well_formed)) (omega arith))

@@ -1,5 +1,5 @@
 -- The three numbers and the verdict are put one behind another.
-use Rattle.std.proofs.Common.{arith}
+use Rattle.std.proofs.Common.{sym, ◌∙◌, arith, rules}
 use Rattle.place.proofs.Placed.{then, first}
 use Rattle.report.specs.Closing.{closing_line}
 use Rattle.report.proofs.closing_line.Goals as goal
@@ -7,5 +7,7 @@ use Rattle.report.proofs.closing_line.Goals as goal
 pub returns : goal.returns
 unfolding closing_line
 returns c =
-    first (rw c.agree-agreed.ensures) (omega arith)
-    (then c.item-n.ensures (then c.item-b.ensures (then c.item-s.ensures c.either.ensures)))
+    let text = then c.item.ensures (then c.item-2.ensures (then c.item-3.ensures c.either.ensures)) in
+    let name = sym (text.same_reference ∙ c.new-page.ensures.same_reference) in
+    first c.new-page.ensures.blank c.new-page.ensures.whole c.end.ensures.used (search rules) (rw c.agree.ensures) (omega arith)
+    text

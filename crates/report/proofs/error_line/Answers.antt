@@ -1,9 +1,13 @@
 -- What is wrong is put behind the line's number.
-use Rattle.std.proofs.Common.{arith, refl}
+use Rattle.std.proofs.Common.{sym, ◌∙◌, arith, rules}
 use Rattle.place.proofs.Placed.{then, first}
-use Rattle.report.specs.Errors.{error_line}
+use Rattle.report.specs.Errors.{error_line, fault_line}
 use Rattle.report.proofs.error_line.Goals as goal
 
 pub returns : goal.returns
-unfolding error_line
-returns c = first refl (omega arith) (then c.item-n.ensures c.fault_at.ensures)
+unfolding error_line fault_line
+returns c =
+    let text = then c.item.ensures (then c.word.ensures (then c.word-2.ensures c.word-3.ensures)) in
+    let name = sym (text.same_reference ∙ c.new-page.ensures.same_reference) in
+    first c.new-page.ensures.blank c.new-page.ensures.whole c.end.ensures.used (search rules) (rw (← c.fault_words.ensures.words)) (omega arith)
+    text

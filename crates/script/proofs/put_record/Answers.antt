@@ -6,9 +6,9 @@ use Rattle.words.proofs.Lengths.{word-most}
 use Rattle.script.specs.Orders.{record_by}
 use Rattle.script.proofs.put_record.Goals as goal
 
-pub returns-then-f : goal.returns-then-f
+pub returns-else-f : goal.returns-else-f
 unfolding record_by
-returns-then-f c = rw (le-leb _ _ c.if-f.true) (nothing c.args.room.now).buffer
+returns-else-f c = rw (le-leb _ _ c.if-f.false) (nothing c.args.room.now).buffer
 
 pub put_pairs-requires : goal.put_pairs-requires
 put_pairs-requires c =
