@@ -8,7 +8,8 @@ ghost use Rattle.printer.specs.Records.{records_in};
 use std::io;
 use std::io::{Read, Write};
 
-// Reads until the records are full or the input ends, and answers how many bytes there are.
+// Reads until the records are full or the input ends, and answers how many bytes there are. std's
+// `read_exact` does not tell how many bytes came before the end, and `read_to_end` needs a heap.
 fn read_full(input: &mut impl Read, records: &mut [u8]) -> io::Result<usize>
     ensures { IfOk result (λ n. n ≤ length records.new) }
 {

@@ -1,7 +1,7 @@
 -- Records one behind another, and their lines. Assumes nothing.
 use mathlib.Core.Path.{◌≡◌, refl, sym, ◌∙◌}
 use mathlib.Core.List.{List, [], ◌++◌, append_assoc, append-nil}
-use Prim.Native.Nat.{ℕ, zero, suc, ◌+◌, ◌-◌, ◌*◌, ◌^◌, ◌≤◌, ◌<◌}
+use Prim.Native.Nat.{ℕ, zero, suc, ◌+◌, ◌-◌, ◌*◌, ◌≤◌, ◌<◌}
 use native.Mathlib.Omega.{arith}
 use native.Mathlib.Nat.{add-zero, add-suc}
 use native.Mathlib.Numerals.{add-one}
@@ -25,11 +25,6 @@ whole-record s i = let e : 66 * i + 66 - 66 * i ≡ 66 = omega arith in rw e
 pub record-begins : (s : List ℕ) (i : ℕ) → i < records_in s → 66 * i < length s
 unfolding records_in
 record-begins s i h = omega arith
-
--- the count fits where there is room for the lines
-pub count_fits : (s : List ℕ) (n : ℕ) → 378 * records_in s ≤ n → n < 2 ^ 64 → length s + 65 < 2 ^ 64
-unfolding records_in
-count_fits s n h l = omega arith
 
 pub no_lines : (s : List ℕ) → lines_to s 0 ≡ []
 unfolding lines_to

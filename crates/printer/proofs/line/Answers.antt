@@ -1,21 +1,21 @@
--- A record that is accepted is a good plan, and its numbers are put; else the refusal.
-use Rattle.std.proofs.Common.{rules}
+-- A record that is read is a good plan, and its numbers are put; else the refusal.
+use Rattle.std.proofs.Common.{◌≡◌, refl, rules, sym, ◌∙◌}
+use Rattle.std.specs.Prelude.{Ok}
+use Rattle.record.specs.Record.{read_of}
 use Rattle.record.proofs.Accepted.{read-good}
 use Rattle.printer.specs.Line.{line_of}
 use Rattle.printer.proofs.line.Goals as goal
 
-pub returns-in-Refused : goal.returns-in-Refused
+pub returns-in-Err : goal.returns-in-Err
 unfolding line_of
-returns-in-Refused c =
-    let r = c.refusal_line.ensures in
-    rw (← c.read-r.ensures, c.in-Refused.is) (r.0, r.1, r.2)
+returns-in-Err c = rw (← c.read.ensures, c.in-Err.is) c.refusal_line.ensures
 
 pub plan_line-requires : goal.plan_line-requires
 plan_line-requires c =
-    (rw c.read-r.ensures (read-good _ (rw (← c.read-r.ensures) c.in_default.is)), search rules)
+    let read : read_of c.args.s.now ≡ Ok c.in-Ok.plan = sym c.read.ensures ∙ c.in-Ok.is in
+    let good = rw read at (read-good c.args.s.now) in
+    (good refl, search rules)
 
-pub returns : goal.returns
+pub returns-in-Ok : goal.returns-in-Ok
 unfolding line_of
-returns c =
-    let r = c.plan_line.ensures in
-    rw (← c.read-r.ensures, c.in_default.is) (r.0, r.1, r.2)
+returns-in-Ok c = rw (← c.read.ensures, c.in-Ok.is) c.plan_line.ensures
