@@ -1,39 +1,77 @@
-// Each call on meter k, and whether it answers n.
-use crate::run::PASS;
-use crate::{make, run, same, setup};
-use meter::Call;
+// The calls that the checks make. Those without a date are made on 20200115, second 0. A slot and a command are any numbers, as
+// the C interface takes them.
+use calendar::Stamp;
+use meter::{Alarms, Call, Command, Key, Load, Pulses, Recharge, Tick};
+use units::{Hundredths, TenThousandths};
 
-// Whether a call on meter k answers n and, where it is a refusal, leaves the meter as it was.
-fn answers(k: u32, c: Call, record: &[u8], n: u32) -> bool {
-    let m = setup::meter(k);
-    let o = run::call(m, c, record);
-    (o.number == n) & ((n == PASS) | same::meters(m, o.meter))
+// A call with the record that is lent beside it; only a load has one.
+#[derive(Clone, Copy)]
+pub struct Request<'a> {
+    pub call: Call,
+    pub record: &'a [u8],
 }
 
-pub fn pulses(k: u32, date: u32, volume: u32, n: u32) -> bool {
-    answers(k, make::pulses(date, 0, volume), b"", n)
+impl From<Call> for Request<'static> {
+    fn from(call: Call) -> Request<'static> {
+        Request { call, record: b"" }
+    }
 }
 
-pub fn recharge(k: u32, value: u64, serial: u32, n: u32) -> bool {
-    answers(k, make::recharge(value, serial), b"", n)
+const MIDNIGHT: Stamp = Stamp {
+    date: 20_200_115,
+    second: 0,
+};
+
+pub fn pulses(n: u32) -> Request<'static> {
+    pulses_at(MIDNIGHT.date, MIDNIGHT.second, n)
 }
 
-pub fn load(k: u32, date: u32, slot: u32, record: &[u8], n: u32) -> bool {
-    answers(k, make::load(date, slot), record, n)
+pub fn pulses_at(date: u32, second: u32, n: u32) -> Request<'static> {
+    let stamp = Stamp { date, second };
+    let count = Hundredths(n);
+    Request::from(Call::Pulses(Pulses { stamp, count }))
 }
 
-pub fn alarms(k: u32, one: u32, two: u32, n: u32) -> bool {
-    answers(k, make::alarms(one, two), b"", n)
+pub fn recharge(value: u64, serial: u32) -> Request<'static> {
+    Request::from(Call::Recharge(Recharge {
+        stamp: MIDNIGHT,
+        amount: TenThousandths(value),
+        serial,
+    }))
 }
 
-pub fn command(k: u32, code: u32, n: u32) -> bool {
-    answers(k, make::command(code), b"", n)
+pub fn load(slot: u32, record: &[u8]) -> Request<'_> {
+    load_on(MIDNIGHT.date, slot, record)
 }
 
-pub fn key(k: u32, n: u32) -> bool {
-    answers(k, make::key(), b"", n)
+pub fn load_on(date: u32, slot: u32, record: &[u8]) -> Request<'_> {
+    let stamp = Stamp { date, second: 0 };
+    Request {
+        call: Call::Load(Load { stamp, slot }),
+        record,
+    }
 }
 
-pub fn tick(k: u32, date: u32, second: u32, n: u32) -> bool {
-    answers(k, make::tick(date, second), b"", n)
+pub fn alarms(one: u32, two: u32) -> Request<'static> {
+    Request::from(Call::Alarms(Alarms {
+        stamp: MIDNIGHT,
+        one,
+        two,
+    }))
+}
+
+pub fn command(code: u32) -> Request<'static> {
+    Request::from(Call::Command(Command {
+        stamp: MIDNIGHT,
+        code,
+    }))
+}
+
+pub fn key() -> Request<'static> {
+    Request::from(Call::Key(Key { stamp: MIDNIGHT }))
+}
+
+pub fn tick(date: u32, second: u32) -> Request<'static> {
+    let stamp = Stamp { date, second };
+    Request::from(Call::Tick(Tick { stamp }))
 }

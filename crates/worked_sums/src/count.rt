@@ -1,4 +1,7 @@
 // A line for each check, and how many there were.
+use crate::checks::Check;
+use answer::Refusal;
+use std::fmt::Display;
 use std::io;
 use std::io::Stdout;
 
@@ -10,10 +13,6 @@ pub struct Count {
     wrong: u32,
 }
 
-fn next(n: u32) -> u32 {
-    if n < 1000 { n + 1 } else { n }
-}
-
 impl Count {
     pub fn new(out: Stdout) -> Count {
         Count {
@@ -23,20 +22,42 @@ impl Count {
         }
     }
 
-    pub fn say(&mut self, ok: bool, name: &str) -> io::Result<()> {
+    pub fn say(&mut self, ok: bool, name: impl Display + Drop) -> io::Result<()> {
         let out = self.out;
-        self.checks = next(self.checks);
+        self.checks = self.checks.saturating_add(1);
         if ok {
             return println!(out; "ok {name}");
         }
-        self.wrong = next(self.wrong);
+        self.wrong = self.wrong.saturating_add(1);
         println!(out; "WRONG {name}")
     }
 
+    // By the number of the refusal that is wanted, and a name.
+    fn say_numbered(&mut self, ok: bool, wanted: Refusal, name: &str) -> io::Result<()> {
+        self.say(ok, format_args!("{}: {name}", u8::from(wanted)))
+    }
+
+    pub fn say_refused(
+        &mut self,
+        found: Option<Refusal>,
+        wanted: Refusal,
+        name: &str,
+    ) -> io::Result<()> {
+        self.say_numbered(found == Some(wanted), wanted, name)
+    }
+
+    // Each check by its name, before it the number of the refusal, if one is wanted.
+    pub fn say_all(&mut self, checks: &[Check<'_>]) -> io::Result<()> {
+        for check in checks {
+            match check.refusal {
+                Some(refusal) => self.say_numbered(check.holds(), refusal, check.name)?,
+                None => self.say(check.holds(), check.name)?,
+            }
+        }
+        Ok(())
+    }
+
     pub fn sum_up(&self) -> io::Result<()> {
-        let out = self.out;
-        let checks = self.checks;
-        let wrong = self.wrong;
-        println!(out; "{checks} checks, {wrong} wrong")
+        println!(self.out; "{} checks, {} wrong", self.checks, self.wrong)
     }
 }

@@ -2,13 +2,11 @@
 // unchanged.
 #![tactic(auto)]
 
-mod calls; // calls.rt: each call on a meter, and whether it answers as it should
+mod calls; // calls.rt: the calls
+mod checks; // checks.rt: a call on a meter, and how it should be answered
 mod count; // count.rt: the lines that are printed
 mod force; // force.rt: the record in force of two
-mod make; // make.rt: the calls
 mod refusals; // refusals.rt: the numbers 0 to 27
-mod run; // run.rt: a call on a meter by value
-mod same; // same.rt: meters compared
 mod setup; // setup.rt: records and meters
 mod sums; // sums.rt: the worked sums
 

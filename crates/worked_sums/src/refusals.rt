@@ -1,210 +1,142 @@
 // Document 01, "Refusal by operation": each number, the meter unchanged where it is a call's.
-use crate::calls::{alarms, command, key, load, pulses, recharge, tick};
+use crate::calls::{alarms, command, key, load, load_on, pulses, recharge, tick};
 use crate::count::Count;
-use crate::run::{PASS, number};
-use crate::setup::{BROKEN, FEBRUARY, FORBIDDEN, FRESH, FULL, PLANNED, READY, TWICE};
-use crate::{same, setup};
-use meter::Meter;
-use records::{Fetched, Heavy};
-use slots::Stepped;
+use crate::setup::Start::{Broken, February, Forbidden, Fresh, Full, Planned, Ready, Twice};
+use crate::setup::{PLAN_A, altered};
+use answer::Refusal;
+use answer::Refusal::{
+    Balance, CycleWord, Dates, Digits, Earlier, InForce, NoAmount, NoPrice, OutOfBounds, Overlap,
+    Pulses, RecordLength, Serial, SerialAbove, SerialAgain, SerialBelow, Slot, Stamp, Steps, Total,
+};
+use records::Shelf;
 use std::io;
 use units::Hundredths;
 
-// Plan A into a slot.
-fn load_a(k: u32, date: u32, slot: u32, n: u32) -> bool {
-    let a = setup::plan_a();
-    load(k, date, slot, &a, n)
-}
-
 fn broken(c: &mut Count) -> io::Result<()> {
-    let ok = pulses(BROKEN, 20_200_115, 1, 0);
-    c.say(ok, "0: pulses on a total of 100,000,000")?;
-    let ok = recharge(BROKEN, 1_000_000, 2, 0);
-    c.say(ok, "0: a recharge")?;
-    let ok = load_a(BROKEN, 20_200_115, 2, 0);
-    c.say(ok, "0: a plan")
+    c.say_all(&[
+        Broken.refuses(pulses(1), OutOfBounds, "pulses on a total of 100,000,000"),
+        Broken.refuses(recharge(1_000_000, 2), OutOfBounds, "a recharge"),
+        Broken.refuses(load(2, PLAN_A), OutOfBounds, "a plan"),
+        Broken.refuses(alarms(10, 5), OutOfBounds, "alarms"),
+        Broken.refuses(command(1), OutOfBounds, "a command"),
+        Broken.refuses(key(), OutOfBounds, "the key"),
+        Broken.refuses(tick(20_200_115, 0), OutOfBounds, "a tick"),
+    ])
 }
 
-fn broken_settings(c: &mut Count) -> io::Result<()> {
-    let ok = alarms(BROKEN, 10, 5, 0);
-    c.say(ok, "0: alarms")?;
-    let ok = command(BROKEN, 1, 0);
-    c.say(ok, "0: a command")?;
-    let ok = key(BROKEN, 0);
-    c.say(ok, "0: the key")?;
-    let ok = tick(BROKEN, 20_200_115, 0, 0);
-    c.say(ok, "0: a tick")
-}
-
-// Plan A, altered so, into slot 2.
-fn load_altered(at: usize, one: u8, two: u8, n: u32) -> bool {
-    let b = setup::altered(at, one, two);
-    load(READY, 20_200_115, 2, &b, n)
-}
-
+// Plan A altered, into slot 2.
 fn damaged(c: &mut Count) -> io::Result<()> {
-    let ok = load(READY, 20_200_115, 2, b"\x20\x20\x01\x01", 1);
-    c.say(ok, "1: four bytes")?;
-    let ok = load_altered(8, 7, 1, 2);
-    c.say(ok, "2: seven steps")?;
-    let ok = load_altered(8, 2, 6, 3);
-    c.say(ok, "3: cycle word 06")?;
-    let ok = load_altered(20, 0x2a, 0, 4);
-    c.say(ok, "4: a digit above 9")
-}
-
-fn senseless(c: &mut Count) -> io::Result<()> {
-    let ok = load_altered(6, 0x02, 0x29, 5);
-    c.say(ok, "5: the end 20210229")?;
-    let ok = load_altered(4, 0x20, 0x20, 6);
-    c.say(ok, "6: the end is the start")?;
-    let ok = load_altered(23, 0, 0, 7);
-    c.say(ok, "7: a price of 0")
+    let steps = altered(8, [7, 1]);
+    let word = altered(8, [2, 6]);
+    let digit = altered(20, [0x2a, 0]);
+    let end = altered(6, [0x02, 0x29]);
+    let none = altered(4, [0x20, 0x20]);
+    let free = altered(23, [0, 0]);
+    c.say_all(&[
+        Ready.refuses(load(2, b"\x20\x20\x01\x01"), RecordLength, "four bytes"),
+        Ready.refuses(load(2, &steps), Steps, "seven steps"),
+        Ready.refuses(load(2, &word), CycleWord, "cycle word 06"),
+        Ready.refuses(load(2, &digit), Digits, "a digit above 9"),
+        Ready.refuses(load(2, &end), Dates, "the end 20210229"),
+        Ready.refuses(load(2, &none), Refusal::NoDay, "the end is the start"),
+        Ready.refuses(load(2, &free), NoPrice, "a price of 0"),
+    ])
 }
 
 fn stamps(c: &mut Count) -> io::Result<()> {
-    let ok = tick(READY, 20_210_229, 0, 8);
-    c.say(ok, "8: the date 20210229")?;
-    let ok = tick(READY, 20_200_115, 86_400, 8);
-    c.say(ok, "8: second 86,400")?;
-    let ok = tick(READY, 20_200_114, 86_399, 9);
-    c.say(ok, "9: a second before the clock")?;
-    let ok = tick(FEBRUARY, 20_200_131, 86_399, 9);
-    c.say(ok, "9: the same on a meter with records")
+    let late = tick(20_200_131, 86_399);
+    c.say_all(&[
+        Ready.refuses(tick(20_210_229, 0), Stamp, "the date 20210229"),
+        Ready.refuses(tick(20_200_115, 86_400), Stamp, "second 86,400"),
+        Ready.refuses(
+            tick(20_200_114, 86_399),
+            Earlier,
+            "a second before the clock",
+        ),
+        February.refuses(late, Earlier, "the same on a meter with records"),
+    ])
 }
 
 fn loads(c: &mut Count) -> io::Result<()> {
-    let ok = load_a(READY, 20_200_115, 3, 10);
-    c.say(ok, "10: slot 3")?;
-    let ok = load_a(READY, 20_201_231, 1, 11);
-    c.say(ok, "11: slot 1 on the last day in force")?;
-    let ok = load_a(READY, 20_210_101, 1, PASS);
-    c.say(ok, "slot 1 loads on the day after")?;
-    let ok = load_a(READY, 20_200_115, 2, 12);
-    c.say(ok, "12: the same plan in slot 2")
+    let last = load_on(20_201_231, 1, PLAN_A);
+    let behind = load_on(20_210_101, 1, PLAN_A);
+    c.say_all(&[
+        Ready.refuses(load(3, PLAN_A), Slot, "slot 3"),
+        Ready.refuses(last, InForce, "slot 1 on the last day in force"),
+        Ready.accepts(behind, "slot 1 loads on the day after"),
+        Ready.refuses(load(2, PLAN_A), Overlap, "the same plan in slot 2"),
+    ])
 }
 
 fn totals(c: &mut Count) -> io::Result<()> {
-    let ok = pulses(FULL, 20_200_115, 65_536, 13);
-    c.say(ok, "13: 65,536 pulses")?;
-    let ok = pulses(FULL, 20_200_115, 1, 14);
-    c.say(ok, "14: a pulse at a total of 99,999,999")?;
-    let ok = pulses(FULL, 20_200_115, 0, PASS);
-    c.say(ok, "no pulse there passes")
+    c.say_all(&[
+        Full.refuses(pulses(65_536), Pulses, "65,536 pulses"),
+        Full.refuses(pulses(1), Total, "a pulse at a total of 99,999,999"),
+        Full.accepts(pulses(0), "no pulse there passes"),
+    ])
 }
 
-fn serials(c: &mut Count) -> io::Result<()> {
-    let ok = recharge(READY, 1_000_000, 2, PASS);
-    c.say(ok, "serial 2 after 1 passes")?;
-    let ok = recharge(TWICE, 1_000_000, 0, 15);
-    c.say(ok, "15: serial 0")?;
-    let ok = recharge(TWICE, 1_000_000, 65_536, 15);
-    c.say(ok, "15: serial 65,536")?;
-    let ok = recharge(TWICE, 1_000_000, 2, 16);
-    c.say(ok, "16: serial 2 after 2")
-}
-
-fn amounts(c: &mut Count) -> io::Result<()> {
-    let ok = recharge(TWICE, 1_000_000, 1, 17);
-    c.say(ok, "17: serial 1 after 2")?;
-    let ok = recharge(TWICE, 1_000_000, 4, 18);
-    c.say(ok, "18: serial 4 after 2")?;
-    let ok = recharge(TWICE, 0, 3, 19);
-    c.say(ok, "19: amount 0")?;
-    let ok = recharge(TWICE, 18_446_744_073_709_551_615, 3, 20);
-    c.say(ok, "20: the highest amount of 64 bits")
+fn recharges(c: &mut Count) -> io::Result<()> {
+    let most = recharge(u64::MAX, 3);
+    c.say_all(&[
+        Ready.accepts(recharge(1_000_000, 2), "serial 2 after 1 passes"),
+        Twice.refuses(recharge(1_000_000, 0), Serial, "serial 0"),
+        Twice.refuses(recharge(1_000_000, 65_536), Serial, "serial 65,536"),
+        Twice.refuses(recharge(1_000_000, 2), SerialAgain, "serial 2 after 2"),
+        Twice.refuses(recharge(1_000_000, 1), SerialBelow, "serial 1 after 2"),
+        Twice.refuses(recharge(1_000_000, 4), SerialAbove, "serial 4 after 2"),
+        Twice.refuses(recharge(0, 3), NoAmount, "amount 0"),
+        Twice.refuses(most, Balance, "the highest amount of 64 bits"),
+    ])
 }
 
 fn settings(c: &mut Count) -> io::Result<()> {
-    let ok = command(READY, 2, 21);
-    c.say(ok, "21: command 2")?;
-    let ok = key(FRESH, 22);
-    c.say(ok, "22: the key with no plan")?;
-    let ok = key(PLANNED, 22);
-    c.say(ok, "22: the key with no balance")?;
-    let ok = key(FORBIDDEN, 22);
-    c.say(ok, "22: the key that the station forbids")?;
-    let ok = alarms(READY, 5, 5, 23);
-    c.say(ok, "23: equal alarms")
+    c.say_all(&[
+        Ready.refuses(command(2), Refusal::Command, "command 2"),
+        Fresh.refuses(key(), Refusal::Key, "the key with no plan"),
+        Planned.refuses(key(), Refusal::Key, "the key with no balance"),
+        Forbidden.refuses(key(), Refusal::Key, "the key that the station forbids"),
+        Ready.refuses(alarms(5, 5), Refusal::Alarms, "equal alarms"),
+    ])
 }
 
-// The number of a query's refusal on a fresh meter, and PASS where there is none.
-fn step() -> u32 {
-    let m = Meter::fresh();
-    let held = m.held;
-    let s = query::step(m.machine.registers, &held);
-    match s {
-        Stepped::At(_) => PASS,
-        Stepped::Refused(n) => n as u32,
-    }
-}
-
-fn fetched(f: Fetched) -> u32 {
-    match f {
-        Fetched::Held(_) => PASS,
-        Fetched::Refused(n) => n as u32,
-    }
-}
-
-fn day() -> u32 {
-    let m = Meter::fresh();
-    let held = m.held;
-    fetched(query::day(m.machine.registers, &held, 0))
-}
-
-fn month() -> u32 {
-    let m = Meter::fresh();
-    let held = m.held;
-    fetched(query::month(m.machine.registers, &held, 0))
-}
-
-fn heavy() -> u32 {
-    let v = Hundredths(0);
-    let m = Meter::fresh();
-    let held = m.held;
-    let h = query::heavy(m.machine.registers, &held, v);
-    match h {
-        Heavy::Day(_, _) => PASS,
-        Heavy::NoDay(n) => n as u32,
-    }
-}
-
+// The questions on a fresh meter.
 fn queries(c: &mut Count) -> io::Result<()> {
-    c.say(step() == 24, "24: the step with no plan")?;
-    c.say(day() == 25, "25: a day record that is not held")?;
-    c.say(month() == 25, "25: a month record that is not held")?;
-    c.say(heavy() == 27, "27: a heavy day where no day is held")
+    let m = Fresh.meter();
+    let r = m.machine.registers;
+    let step = query::step(r, &m.held).err();
+    c.say_refused(step, Refusal::NoPlan, "the step with no plan")?;
+    let day = query::record(r, &m.held, Shelf::Day, 0).err();
+    c.say_refused(day, Refusal::NotHeld, "a day record that is not held")?;
+    let month = query::record(r, &m.held, Shelf::Month, 0).err();
+    c.say_refused(month, Refusal::NotHeld, "a month record that is not held")?;
+    let heavy = query::heavy(r, &m.held, Hundredths(0)).err();
+    c.say_refused(
+        heavy,
+        Refusal::NoHeavyDay,
+        "a heavy day where no day is held",
+    )
 }
 
-// Plan A written into a short buffer.
-fn write_a(out: &mut [u8; 65]) -> u32 {
-    let a = setup::plan_a();
-    let r = record::read(&a);
-    let w = record::write(r.plan, out);
-    number(w)
-}
-
-fn untouched(out: &[u8; 65]) -> bool {
-    same::bytes(out, &[0x77; 65])
+// Plan A written into a buffer.
+fn write_a(out: &mut [u8]) -> Result<(), Refusal> {
+    record::write(record::read(PLAN_A)?, out)
 }
 
 fn short_buffer(c: &mut Count) -> io::Result<()> {
     let mut out = [0x77; 65];
-    let n = write_a(&mut out);
-    c.say(n == 26, "26: a buffer of 65 bytes")?;
-    c.say(untouched(&out), "26: the buffer is unchanged")
+    let short = write_a(&mut out).err();
+    c.say_refused(short, Refusal::BufferLength, "a buffer of 65 bytes")?;
+    c.say(out == [0x77; 65], "26: the buffer is unchanged")
 }
 
 pub fn all(c: &mut Count) -> io::Result<()> {
     broken(c)?;
-    broken_settings(c)?;
     damaged(c)?;
-    senseless(c)?;
     stamps(c)?;
     loads(c)?;
     totals(c)?;
-    serials(c)?;
-    amounts(c)?;
+    recharges(c)?;
     settings(c)?;
     queries(c)?;
     short_buffer(c)
