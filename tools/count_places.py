@@ -139,7 +139,7 @@ class Count:
             for i in it.at('for'):
                 start = file.find(i, '{')
                 inner = ' '.join(words[start:file.close(start)])
-                if {'..', '..='} & set(words[i:start]) and re.search(rf'\[[^\]]*\b{words[i + 1]}\b', inner):
+                if words[i + 1].isidentifier() and {'..', '..='} & set(words[i:start]) and re.search(rf'\[[^\]]*\b{words[i + 1]}\b', inner):
                     self.add('3b', file, file.lines[i])
 
     def by_hand(self):

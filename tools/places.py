@@ -85,8 +85,8 @@ class Function:
             if file.words[i] in ('requires', 'ensures'):
                 start = file.words.index('{', i)
                 self.clauses.append((file.words[i], file.words[start + 1:file.close(start)], file.lines[i]))
-                i = file.close(start)
-            i += 1
+                i = start
+            i = file.close(i) + 1
         self.begin, self.end = i, file.close(i)
         self.body = file.words[i + 1:self.end]
         self.rows = file.lines[self.end] - file.lines[i] - 1
