@@ -7,6 +7,10 @@ PROGRAMS = ('calendar_check', 'plan_printer', 'replay', 'worked_sums')
 TWICE = ('host', 'account', 'records', 'slots', 'book')
 PROGRAM = 'src/main.rt'
 HEAD = re.compile(r'^( *)(pub(?:\(\w+\))? )?(?:extern "C" )?fn (\w+)', re.M)
+# a call, or a function that is named by its path: what stands before it, its path, its name
+CALL = re.compile(r'(\.|>::)?((?:\w+::)*)\b(\w+)((?:::<[^>()]*>)?\()?')
+OPERATORS = {' + ': 'add', ' - ': 'sub', ' * ': 'mul', '?': 'from', '.into()': 'from', '.try_into()': 'try_from'}
+ANY = ('*', 'Self', 'crate', 'self', 'super', *'ABCDEFGHIJKLMNOPQRSTUVWXYZ')  # paths that tell nothing of an owner
 BLOCK = re.compile(r'^(?:pub )?(?:trait (\w+).*|impl(<.*?>)? (.*)) \{$', re.M)
 
 
@@ -15,11 +19,13 @@ def read(crate, place):
 
 
 class Line:
-    """A line of crates.txt: what a crate uses, and whether it is a static library."""
+    """A line of crates.txt: what a crate uses of the repository and of the kit, and whether it is a static library."""
 
     def __init__(self, text):
         head, _, uses = text.partition(':')
-        self.name, self.is_static, self.uses = head.split()[0], 'staticlib' in head.split()[1:], uses.split()
+        self.name, self.is_static, self.uses, self.of_kit = head.split()[0], 'staticlib' in head.split()[1:], [], []
+        for name in uses.split():
+            (self.uses if os.path.isdir(os.path.join(ROOT, 'crates', name)) else self.of_kit).append(name)
 
 
 def listed():
@@ -31,7 +37,7 @@ LISTED = listed()
 
 
 def below(name):
-    """The crates that a crate stands on, each once."""
+    """The crates of the repository that a crate stands on, each once."""
     found = []
     for dep in LISTED[name].uses:
         found += [it for it in below(dep) + [dep] if it not in found]
@@ -39,13 +45,22 @@ def below(name):
 
 
 def owner_of(block):
-    """What the prover calls a trait, a type's own methods, or a trait's for a type: its words run together, without lifetimes and parameters."""
+    """The words of a trait, a type or a trait for a type, without lifetimes and parameters, and what the prover calls it: the words run together."""
     if block[1]:
-        return block[1]
+        return [block[1]], block[1]
     trait, _, kind = block[3].split(' where ')[0].rpartition(' for ')
     taken = re.findall(r'[<,]\s*(?:const )?(\w+)', block[2] or '')
     words = [word for word in re.findall(r"(?<!')\b\w+", kind + ' ' + trait) if word not in taken]
-    return ''.join(word[0].upper() + word[1:] for word in words) if trait else words[0]
+    return words, ''.join(word[0].upper() + word[1:] for word in words) if trait else words[0]
+
+
+def calls_in(text):
+    """The paths and names of what a body calls. `*` is the path of a method, an operator or a conversion."""
+    found = {('*', name) for sign, name in OPERATORS.items() if sign in text}
+    for before, path, name, opened in CALL.findall(text):
+        if opened or path:
+            found.add(('*' if before else path.split('::')[-2] if path else '', name))
+    return found
 
 
 class Function:
@@ -54,26 +69,37 @@ class Function:
     def __init__(self, crate, place, text, head):
         module = os.path.basename(place)[:-len('.rt')]
         block = [*BLOCK.finditer(text[:head.start()])][-1] if head.group(1) else None
-        owner = [owner_of(block)] if block else [module]
+        self.paths, owner = owner_of(block) if block else ([module], module)
+        at_home = block and module not in ('lib', 'main') and re.search(r'^(?:pub )?(?:struct|enum|trait) %s\b' % owner, text, re.M)
+        self.is_free, owner = not block, [module, owner] if at_home else [owner]  # a type of a module has its name before its own
         of_trait = bool(block) and (block[1] or ' for ' in block[3]) and 'ghost ' in text[block.start():head.start()]
         owner = [] if owner in (['lib'], ['main']) else owner
         self.name, self.place = '::'.join(owner + [head.group(3)]), place
         self.folder = '/'.join(['proofs'] + owner + [head.group(3)])
-        if not os.path.isdir(os.path.join(ROOT, 'crates', crate, self.folder)):
-            self.folder = '/'.join(['proofs'] + owner + ['+' + head.group(3)])  # of one that calls itself
+        of_cycle = '/'.join(['proofs'] + owner + ['+' + head.group(3)])  # of one that calls itself
+        if os.path.isdir(os.path.join(ROOT, 'crates', crate, of_cycle)):
+            self.folder = of_cycle
         self.begin, self.end = head.start(), text.find('\n' + head.group(1) + '}\n', head.end())
         stop = text.find(';\n', head.end())
         declared = '{\n' not in text[head.end():stop]
         if declared:
             self.end = stop  # a trait's function with no body, which its impls promise for
-        self.body = text.find('\n' + head.group(1) + '{\n', head.end()) + 1
-        rows, first = text.split('\n'), text.count('\n', 0, self.begin) + 1
+        opened = re.compile(r'^%s(?! ).*\{$' % head.group(1), re.M).search(text, head.start())  # at the function's own depth
+        self.body = self.end if declared else opened.end()
+        row = lambda at: text.count('\n', 0, at) + 1
+        self.block = range(row(block.start()), row(text.find('\n}\n', block.start())) + 2) if block else range(0)
+        rows, first = text.split('\n'), row(self.begin)
         while rows[first - 2].lstrip().startswith('#['):
             first -= 1  # the prover counts a function from its attributes on
-        self.lines = range(first, text.count('\n', 0, self.end) + 3)
+        self.lines = range(first, row(self.end) + 2)
         self.public = head.group(2) == 'pub ' or of_trait
         self.promises = not declared and ('ensures' in text[self.begin:self.body] or of_trait)
-        self.names = set(re.findall(r'\b(\w+)\(', text[self.body:self.end]))
+        self.last, self.calls = head.group(3), calls_in(text[self.body:self.end])
+
+    def is_met(self, call):
+        """Whether a call may mean this function: by its name, and by the type, the trait or the module that its path names."""
+        path, last = call
+        return last == self.last and (path in ANY or path in self.paths or self.is_free and not path)
 
 
 class Crate:
@@ -101,20 +127,16 @@ class Crate:
                        for place, text in self.texts.items() if not place.startswith(function.folder + '/'))
 
     def reached(self, function):
-        """The last names of what a function calls, and of what that calls, in the crate."""
-        if function.name not in self.reach:
+        """What a function calls, and what that calls, in the crate."""
+        if function not in self.reach:
             found, left = set(), [function]
             while left:
-                for name in left.pop().names - found:
-                    found.add(name)
-                    left += [other for other in self.functions if other.name.split('::')[-1] == name]
-            self.reach[function.name] = found
-        return self.reach[function.name]
-
-    def apart(self, one, other):
-        """Whether neither function calls the other, so that the check tells their edits apart."""
-        last = lambda function: function.name.split('::')[-1]
-        return one is not other and last(other) not in self.reached(one) and last(one) not in self.reached(other)
+                calls = left.pop().calls
+                more = {other for other in self.functions if other not in found and any(map(other.is_met, calls))}
+                found |= more
+                left += more
+            self.reach[function] = found
+        return self.reach[function]
 
     def named(self, name):
         found = [f for f in self.functions if f.name == name] or [f for f in self.functions if f.name.split('::')[-1] == name]
@@ -138,21 +160,25 @@ class Edit:
                 self.pairs.append((place, old, line[len('new:'):].removeprefix(' ')))
             elif line.startswith('for: '):
                 others += line[len('for: '):].split()
-        touched = [self.touched(place, old) for place, old, _ in self.pairs]
+        touched = [self.touched(*pair) for pair in self.pairs if pair[1] in crate.texts.get(pair[0], '') or pair is self.pairs[0]]
         self.changed = {function for function, _ in touched if function}
         self.stands = list(self.changed)
-        one = touched[0] if len(set(touched)) == 1 else (None, None)
-        self.function = one[0] if one[1] == 'body' or one[0] and crate.uncalled(one[0]) else None
+        one = touched[0][0] if len({function for function, _ in touched}) == 1 else None
+        self.function = one if one and ({part for _, part in touched} == {'body'} or crate.uncalled(one)) else None
+        self.others = []
         for name in others:
             function = crate.named(name)
             self.whole = self.whole or ('BAD EDIT: it names %s, which is no function of the crate' % name if not function else None)
-            self.stands += [function] if function else []
+            self.others += [function] if function else []
+        self.stands += self.others
 
-    def touched(self, place, old):
-        """The function that a replacement stands in, and whether in its body or its contract."""
-        at = self.crate.texts.get(place, '').find(old) if place.startswith('src/') else -1
-        for function in self.crate.functions if at >= 0 else []:
-            if function.place == place and function.begin <= at < function.end:
+    def touched(self, place, old, new):
+        """The function that a replacement stands in, and whether in its body (or its proof) or its contract."""
+        at = self.crate.texts.get(place, '').find(old) + len(os.path.commonprefix([old, new]))
+        for function in self.crate.functions:
+            if place.startswith(function.folder + '/'):
+                return function, 'body'
+            if function.place == place and function.begin <= at <= function.end:
                 return function, 'body' if at >= function.body else 'contract'
         return None, None
 
