@@ -52,15 +52,15 @@ pub neither : (a b : Bool) → a ≡ false → b ≡ false → (a || b) ≡ fals
 neither a b h i = rw (h, i)
 
 -- a chain that accepts: its first test holds, and so does the rest
-pub need-first : {T : Type 0} (b : Bool) (n : Refusal) (a : Result T Refusal) {x : T} → need b n a ≡ Ok x → b ≡ true
+pub need-first : {T E : Type 0} (b : Bool) (n : E) (a : Result T E) {x : T} → need b n a ≡ Ok x → b ≡ true
 need-first true n a h = refl
 need-first false n a h = cc
 
-pub need-rest : {T : Type 0} (b : Bool) (n : Refusal) (a : Result T Refusal) {x : T} → need b n a ≡ Ok x → a ≡ Ok x
+pub need-rest : {T E : Type 0} (b : Bool) (n : E) (a : Result T E) {x : T} → need b n a ≡ Ok x → a ≡ Ok x
 need-rest true n a h = h
 need-rest false n a h = cc
 
-pub need-both : {T : Type 0} {b : Bool} (n : Refusal) {a : Result T Refusal} {x : T} → need b n a ≡ Ok x → (b ≡ true) × (a ≡ Ok x)
+pub need-both : {T E : Type 0} {b : Bool} (n : E) {a : Result T E} {x : T} → need b n a ≡ Ok x → (b ≡ true) × (a ≡ Ok x)
 need-both {b = b} n {a = a} h = (need-first b n a h, need-rest b n a h)
 
 pub next-first : {T : Type 0} (a : Result ⊤ Refusal) (b : Result T Refusal) {x : T} → next a b ≡ Ok x → a ≡ Ok tt

@@ -35,8 +35,8 @@ number_of NotHeld = 25
 number_of BufferLength = 26
 number_of NoHeavyDay = 27
 
--- a test that must hold, the refusal where it does not, and the answer of the tests behind it
-abbrev pub need : {T : Type 0} → Bool → Refusal → Result T Refusal → Result T Refusal
+-- a test that must hold, the error where it does not (of a call its refusal), and the answer of the tests behind it
+abbrev pub need : {T E : Type 0} → Bool → E → Result T E → Result T E
 need t n rest = cond t rest (Err n)
 
 -- one answer, and the next if it accepts

@@ -45,17 +45,18 @@ impl From<Refusal> for u8 {
     }
 }
 
-// A test that must hold, and the refusal where it does not.
-pub fn need(holds: bool, refusal: Refusal) -> Result<(), Refusal>
-    ensures { result ≡ need holds refusal (Ok tt) }
+// A test that must hold, and the error where it does not: of a call its refusal.
+pub fn need<E: Copy>(holds: bool, error: E) -> Result<(), E>
+    ensures { result ≡ need holds error (Ok tt) }
 {
     if holds {
         return Ok(());
     }
-    Err(refusal)
+    Err(error)
 }
 
-// Any answer as a host sees it: accepted, or the refusal's number; 0 where it is accepted.
+// Any answer as a host sees it: accepted, or the refusal's number; 0 where it is accepted. A flag and
+// a number: the C header lays it out so.
 #[repr(C)]
 #[derive(Clone, Copy, PartialEq, Eq)]
 pub struct Verdict {
