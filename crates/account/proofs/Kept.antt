@@ -1,15 +1,15 @@
 -- Laws of the account's bounds for the layers above: what they tell, and that charges, accepted recharges and alarms keep them.
 -- Assumes nothing.
 use mathlib.Core.Path.{◌≡◌}
-use mathlib.Core.Bool.{true}
+use mathlib.Core.Bool.{true, false}
 use Prim.Native.Nat.{ℕ, ◌+◌, ◌*◌, ◌^◌, ◌≤◌, ◌<◌}
 use native.Mathlib.Omega.{arith}
+use borrow.Author.Differences.{ints}
 use borrow.Author.Tests.{leb-true, ltb-true, le-leb, eqb-true, eqb-false, not-true}
 use lib.Dec.{ltb, eqb}
 use lib.IntN.{pos, ◌+ℤ◌}
-use lib.Signed.{le_z}
+use lib.Signed.{le_z, lt_z}
 use Rattle.units.specs.Money.{Small, in_bounds, in_millionths, highest_balance}
-use Rattle.units.proofs.Integers.{plus, le-true, lt-false, small-dn}
 use Rattle.units.proofs.Balance.{are-bounds, in_small, debit-in, credit-in}
 use Rattle.std.specs.Prelude.{Ok}
 use Rattle.answer.specs.declared.Refusal.TheVariants.{Serial, SerialAgain, SerialBelow, SerialAbove, NoAmount, Balance}
@@ -109,11 +109,9 @@ recharged-good a total amount serial r e =
 pub recharge-small : (a : Account) (total amount serial : ℕ) → account_good a total ≡ true → total ≤ 99999999 → recharge_refusal a amount serial ≡ Ok tt
     → amount ≤ 2 ^ 55
 recharge-small a total amount serial e h r =
-    let z = a.balance.0 in
-    let x = in_millionths amount in
     let v = vetted a amount serial r in
     let room = account-room a total e h in
-    omega (arith, le-true (z +ℤ pos x) (pos highest_balance) v.takes, plus z (pos x), small-dn z room.small)
+    omega (arith, ints, v.takes, room.small)
 
 -- new alarms keep the bounds
 pub alarmed-good : (a : Account) (total one two : ℕ) → alarms_good one two ≡ true → account_good a total ≡ true → account_good (alarmed a one two) total ≡ true
@@ -131,10 +129,10 @@ fresh-account a total h =
     let s = split high.1 in
     let o = split s.1 in
     let e : a.serial ≡ 0 = eqb-true _ _ s.0 in
-    let p = le-true z (pos 0) low.0 in
-    let q = lt-false z (pos 0) (not-true _ high.0) in
+    let p : le_z z (pos 0) ≡ true = low.0 in
+    let q : lt_z z (pos 0) ≡ false = not-true _ high.0 in
     parts-good a total (record {
       serial = omega arith;
       alarms = rw (eqb-true a.one 20 o.0, eqb-true a.two 5 o.1);
-      bounds = are-bounds highest_balance z total (omega arith) (omega arith);
+      bounds = are-bounds highest_balance z total (omega (arith, ints)) (omega (arith, ints));
     })

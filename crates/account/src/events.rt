@@ -1,11 +1,11 @@
-// Event codes: each call's in their order.
+// Event codes, in the order in which a call gives them.
 ghost use Rattle.std.specs.Prelude.{◌≡◌};
 ghost use Rattle.account.specs.Codes.{no_codes, noted, code_if, note_all, event_code};
 ghost use Rattle.account.specs.Valve.{expiry_codes};
 
 use crate::{Codes, Event};
 
-// The code of an event; that of a plan's end is "80 02 00 12".
+// The code of an event.
 impl From<Event> for u32 {
     ghost from_gives = { λ e n. n ≡ event_code e };
 
@@ -27,7 +27,7 @@ impl Codes {
         }
     }
 
-    // One event more.
+    // One event more. A copy is written, as `..self` writes no element of an array.
     #[tactic(auto, unfolding(crate::specs::Codes::noted))]
     pub fn note(self, event: Event) -> Codes
         ensures { result ≡ noted self (event_code event) }

@@ -12,7 +12,8 @@ ghost use Rattle.account.specs.Fall.{fall_of};
 use answer::Refusal;
 use units::{Charge, Hundredths, Millionths, TenThousandths};
 
-// The balance, the last accepted serial (0 before the first), and the two alarms in whole yuan.
+// The balance, the last accepted serial (0 before the first), and the two alarms in whole yuan. A host
+// lends it with any numbers in it, so its type states no fact, and each method asks for what it needs.
 #[repr(C)]
 #[derive(Clone, Copy, PartialEq, Eq)]
 pub struct Account {
@@ -45,7 +46,7 @@ pub enum Event {
     InDebt = 0x33,
 }
 
-// Event codes in their order. A host reads the array and its count, so it stays no list of events.
+// Event codes in their order. A host reads the array and its count, so it is no list of events.
 #[repr(C)]
 #[derive(Clone, Copy, PartialEq, Eq)]
 pub struct Codes {
@@ -60,7 +61,7 @@ pub struct Fall {
     pub codes: Codes,
 }
 
-// Refusal 23 unless this holds.
+// Refusal 23 unless this holds. The C header names each alarm, so they go as two numbers.
 #[tactic(auto, unfolding(crate::specs::Account::alarms_good))]
 pub fn alarms_good(one: u32, two: u32) -> bool
     ensures { result ≡ alarms_good one two }
@@ -92,6 +93,7 @@ impl Account {
         }
     }
 
+    // The derived `==`, by the name that the rules have.
     #[tactic(auto, unfolding(crate::specs::Account::is_fresh_account))]
     pub fn is_fresh(self) -> bool
         ensures { result ≡ is_fresh_account self }
@@ -144,6 +146,7 @@ impl Account {
         Account { one, two, ..self }
     }
 
+    // A charge is any u64 in the C layout, so that it fits is asked here and in `crosses`.
     pub fn charged(self, cost: Charge) -> Account
         requires small { Small self.balance.0 }
         requires cost_bound { cost.0 < 2 ^ 62 }

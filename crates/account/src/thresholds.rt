@@ -19,6 +19,7 @@ impl Valve {
         }
     }
 
+    // The derived `==`, by the name that the rules have.
     #[tactic(auto, unfolding(crate::specs::Valve::is_fresh_valve))]
     pub fn is_fresh(self) -> bool
         ensures { result ≡ is_fresh_valve self }
