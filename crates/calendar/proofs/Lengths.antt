@@ -1,16 +1,17 @@
--- How long months and years are. Only `years-before` sees the leap rule itself. Assumes nothing.
+-- How long months and years are, and that the day number of any number fits. Only `years-before` sees the leap rule itself. Assumes nothing.
 use mathlib.Core.Path.{◌≡◌, refl}
 use mathlib.Core.Bool.{cond}
-use Prim.Native.Nat.{ℕ, zero, suc, ◌+◌, ◌-◌, ◌*◌, ◌/◌, ◌%◌, ◌≤◌}
+use Prim.Native.Nat.{ℕ, zero, suc, ◌+◌, ◌-◌, ◌*◌, ◌/◌, ◌%◌, ◌^◌, ◌≤◌, ◌<◌}
+use native.Mathlib.Nat.{div-le_self}
 use native.Mathlib.Omega.{arith}
 use lib.Dec.{eqb}
 use borrow.Author.Tests.{eqb-true, eqb-false}
-use Rattle.calendar.specs.Date.{is_leap, is_short, days_in}
-use Rattle.calendar.specs.DayNumber.{days_of_months, days_of_years}
+use Rattle.calendar.specs.Date.{year_of, month_of, is_leap, is_short, days_in}
+use Rattle.calendar.specs.DayNumber.{days_of_months, days_of_years, day_number}
 use Rattle.answer.proofs.Tests.{cases}
 
 -- a month has 31 days at most
-month-bound : (y m : ℕ) → days_in y m ≤ 31
+pub month-bound : (y m : ℕ) → days_in y m ≤ 31
 unfolding days_in
 month-bound y m =
     cases (eqb m 2)
@@ -42,3 +43,14 @@ years-before (suc k) =
     cases (is_leap (2000 + k))
     (λ e. rw (years-before k, year (2000 + k), e) (omega (arith, eqb-true ((2000 + k) % 4) 0 e)))
     (λ e. rw (years-before k, year (2000 + k), e) (omega (arith, eqb-false ((2000 + k) % 4) 0 e)))
+
+-- a number of 32 bits has a day number of 31
+pub number-fits : (d : ℕ) → d < 2 ^ 32 → day_number d < 2 ^ 31
+unfolding day_number
+number-fits d h = omega (arith, years-before (year_of d - 2000), months-bound (year_of d) (month_of d - 1))
+
+-- what a number of days needs, so that its sums fit
+pub ruleset days = (month-bound, months-bound, years-before)
+
+-- and what a number of runs needs
+pub ruleset runs = (number-fits, div-le_self)

@@ -1,7 +1,7 @@
 // Document 01, "Dates" and the calendar part of "Days in force and cycles".
 #![tactic(auto)]
 
-ghost use Rattle.std.specs.Prelude.{◌≡◌, true, ◌-◌, ◌≤◌, ◌<◌};
+ghost use Rattle.std.specs.Prelude.{◌≡◌, ◌<◌};
 ghost use Rattle.calendar.specs.Date.{is_leap, days_in, is_day, is_date};
 ghost use Rattle.calendar.specs.Stamp.{is_stamp, dated, not_before};
 ghost use Rattle.calendar.specs.DayNumber.{days_of_months, days_of_years, day_number};
@@ -56,6 +56,7 @@ fn is_leap(y: u32) -> bool
     y % 4 == 0
 }
 
+// A month is a number here and below, as the digits of a date say it.
 #[tactic(auto, unfolding(crate::specs::Date::days_in))]
 fn days_in(y: u32, m: u32) -> u32
     ensures { result ≡ days_in y m }
@@ -100,7 +101,7 @@ impl Stamp {
         Ok(self.date)
     }
 
-    // Whether `next` is not before this stamp.
+    // Whether `next` is not before this stamp: the derived order, under a name that says which way.
     #[tactic(auto, unfolding(crate::specs::Stamp::not_before))]
     pub fn reaches(self, next: Stamp) -> bool
         ensures { result ≡ not_before self next }
@@ -109,37 +110,37 @@ impl Stamp {
     }
 }
 
-// The days of the months before month m in the year y.
-#[tactic(auto, unfolding(crate::specs::DayNumber::days_of_months))]
-fn days_before(y: u32, m: u32) -> u32
-    requires le_m { 1 ≤ m }
-    requires m_bound { m ≤ 12 }
-    ensures { result ≡ days_of_months y (m - 1) }
+// The days of the first k months of the year y.
+#[tactic(auto, unfolding(crate::specs::DayNumber::days_of_months), using(crate::proofs::Lengths::days))]
+fn days_of_months(y: u32, k: u32) -> u32
+    requires { k < 100 }
+    ensures { result ≡ days_of_months y k }
 {
     let mut n = 0;
-    for k in 1..m {
-        n += days_in(y, k);
+    for m in 0..k {
+        n += days_in(y, m + 1);
     }
     n
 }
 
 // The days of the k years from 2000 on.
-fn years_before(k: u32) -> u32
-    requires { k ≤ 99 }
+#[tactic(auto, using(crate::proofs::Lengths::days))]
+fn days_of_years(k: u32) -> u32
+    requires { k < 1_000_000 }
     ensures { result ≡ days_of_years k }
 {
     365 * k + (k + 3) / 4
 }
 
-// A date stays a number, as in the C layouts of stamps and plans: a type of dates would be made again
-// at each use, under this same fact.
-#[tactic(auto, unfolding(crate::specs::DayNumber::day_number))]
+// The days from 20000101 to a date.
+#[tactic(auto, unfolding(crate::specs::DayNumber::day_number), using(crate::proofs::Lengths::days))]
 pub fn day_number(d: u32) -> u32
-    requires { is_date d ≡ true }
     ensures { result ≡ day_number d }
 {
     let y = d / 10_000;
-    years_before(y - 2000) + (days_before(y, d / 100 % 100) + (d % 100 - 1))
+    let months = (d / 100 % 100).saturating_sub(1);
+    let days = (d % 100).saturating_sub(1);
+    days_of_years(y.saturating_sub(2000)) + (days_of_months(y, months) + days)
 }
 
 #[tactic(auto, unfolding(crate::specs::Cycle::month_start))]
@@ -149,6 +150,7 @@ pub fn month_start(d: u32) -> u32
     d / 100 * 100 + 1
 }
 
+// Months go by number: document 01 names the form, a match on month ranges.
 fn quarter_month(m: u32) -> u32
     ensures { result ≡ quarter_month m }
 {
@@ -174,7 +176,8 @@ pub fn year_start(d: u32) -> u32
     d / 10_000 * 10_000 + 101
 }
 
-// The first date of the calendar cycle that a date lies in, 0 for a cycle that is none.
+// The first date of the calendar cycle that a date lies in, 0 for a cycle that is no calendar cycle. It
+// stays a number: the laws of cycles use its order.
 #[tactic(auto, unfolding(crate::specs::Cycle::cycle_start))]
 pub fn cycle_start(cycle: Cycle, d: u32) -> u32
     ensures { result ≡ cycle_start cycle d }
@@ -187,16 +190,14 @@ pub fn cycle_start(cycle: Cycle, d: u32) -> u32
     }
 }
 
-// Which run of n days from `first` a date lies in: 0 before it, then 1, 2, ..
-#[tactic(auto, unfolding(crate::specs::Cycle::run_of))]
+// Which run of n days from `first` a date lies in: 0 before it, then 1, 2, ..; runs of 0 days are one.
+#[tactic(auto, unfolding(crate::specs::Cycle::run_of), using(crate::proofs::Lengths::runs))]
 pub fn run_of(first: u32, n: u32, d: u32) -> u32
-    requires first_value { is_date first ≡ true }
-    requires d_value { is_date d ≡ true }
-    requires n_nonzero { 0 < n }
     ensures { result ≡ run_of first n d }
 {
     if d < first {
         return 0;
     }
-    (day_number(d) - day_number(first)) / n + 1
+    let days = day_number(d).saturating_sub(day_number(first));
+    days.checked_div(n).unwrap_or(0) + 1
 }

@@ -39,7 +39,8 @@ fn written(year: u16, month: u8, day: u8) -> u32 {
     u32::from(year) * 10_000 + u32::from(month) * 100 + u32::from(day)
 }
 
-// Long and short months alternate, but July and August are both long.
+// Long and short months alternate, but July and August are both long. A month is a number: the program
+// counts the days by itself, to set them beside those of crate `calendar`.
 fn length(month: u8, since: u8) -> u8 {
     match month {
         2 if since == 0 => 29,

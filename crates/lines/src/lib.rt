@@ -5,7 +5,8 @@ ghost use Rattle.std.specs.Prelude.{◌≡◌, ◌≤◌, ◌==◌, length};
 ghost use Rattle.std.specs.List.{position_or_len};
 ghost use Rattle.lines.specs.Pieces.{until, past, place_of, shifted};
 
-// The first place where b stands, or the end of s.
+// The first place where b stands, or the end of s, which ends a piece as b does. A text and a byte here
+// and below are no pair that stays together.
 fn first(s: &[u8], b: u8) -> usize
     ensures place { result ≡ position_or_len (λ x. x == b) s.now }
     ensures within { result ≤ length s.now }
@@ -39,7 +40,8 @@ pub fn past(s: &[u8], b: u8) -> &[u8]
     if end < s.len() { &s[end + 1..] } else { &[] }
 }
 
-// The first newline at or after `from`, or the end of the buffer.
+// The first newline at or after `from`, or the end of the buffer. `first`, `find` and this one each say
+// that the place is within the text, as callers cut there; a place has no type of its own.
 pub fn line_end(buf: &[u8], from: usize) -> usize
     requires { from ≤ length buf.now }
     ensures { (result ≡ place_of 10 buf.now from) × (from ≤ result) × (result ≤ length buf.now) }
@@ -47,7 +49,7 @@ pub fn line_end(buf: &[u8], from: usize) -> usize
     find(buf, from, b'\n')
 }
 
-// The bytes from `from` up to `to`, shifted to the start of the buffer.
+// The bytes from `from` up to `to`, shifted to the start of the buffer: a range, as `copy_within` has it.
 #[tactic(auto, unfolding(crate::specs::Pieces::shifted, text::specs::Decimal::starting_with))]
 pub fn shift(buf: &mut [u8], from: usize, to: usize)
     requires { (from ≤ to) × (to ≤ length buf.old) }

@@ -8,8 +8,13 @@ ghost use Rattle.place.specs.Value.{fixed, value_text};
 
 use units::{Charge, Hundredths, Millionths, Shown, Signed, TenThousandths};
 
+// The most bytes of one line, `line_room` in contracts. Each function that puts lines asks that its
+// buffer has this room: an array of so many bytes would shut out longer buffers.
+pub const LINE_ROOM: usize = 320;
+
 // A number in a line: plain; in hexadecimal; a balance or a display as the number of its units, with
 // a sign; a volume in cubic metres with two decimals; a price with four or a charge with six in yuan.
+// One match puts them all: seven impls of a trait would each have a line of it, and a head of their own.
 #[derive(Clone, Copy)]
 pub enum Value {
     Whole(u64),
@@ -51,7 +56,7 @@ impl Value {
     }
 }
 
-// A lent buffer and how many bytes of text stand at its start.
+// A lent buffer and how many bytes of text stand at its start; there is no heap for a `String`.
 pub struct Page<'a> {
     pub buffer: &'a mut [u8],
     pub used: usize,

@@ -2,9 +2,8 @@
 use mathlib.Core.Path.{◌≡◌, refl}
 use mathlib.Core.Bool.{Bool, true, false}
 use mathlib.Core.List.{[], ◌∷◌, ◌++◌}
-use Prim.Native.Nat.{ℕ, zero, suc, ◌-◌, ◌/◌, ◌%◌, ◌^◌, ◌≤◌, ◌<◌}
+use Prim.Native.Nat.{ℕ, zero, suc, ◌-◌, ◌/◌, ◌%◌, ◌≤◌, ◌<◌}
 use native.Mathlib.Omega.{arith}
-use native.Mathlib.Nat.{pow-suc, div-lt_iff_lt-mul}
 use borrow.Author.Tests.{lt-ltb, le-ltb}
 use Rattle.text.specs.Decimal.{glyph, digits_of}
 
@@ -21,7 +20,3 @@ pub more_digits : (b k x : ℕ) → 1 ≤ k → b ≤ x → digits_of b k x ≡ 
 unfolding digits_of
 more_digits b zero x l h = absurd (omega arith)
 more_digits b (suc k) x l h = let e : suc k - 1 ≡ k = omega arith in rw (le-ltb x b h, e)
-
--- the quotient has a digit less
-pub quotient : (b k x : ℕ) → 0 < b → x < b ^ suc k → x / b < b ^ k
-quotient b k x p l = (div-lt_iff_lt-mul {k = b} {x = x} {y = b ^ k} p).1 (rw pow-suc at l)

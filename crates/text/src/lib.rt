@@ -1,5 +1,7 @@
 // Text that programs print, put into a lent buffer. Each function answers how many bytes it put;
-// what stands behind them in the buffer stays.
+// what stands behind them in the buffer stays. A byte behind a text is stored at that place: by
+// `put_bytes(&[after], &mut out[n..])` it would be no plainer. No `Display`: std's `write!` says what
+// it put only where it answers Ok, and of a lent slice nothing.
 #![tactic(auto)]
 
 ghost use Rattle.std.specs.Prelude.{◌≡◌, [], ◌∷◌, ◌++◌, ◌*◌, ◌^◌, ◌≤◌, ◌<◌, length};
@@ -42,7 +44,8 @@ pub fn put_decimal(x: u64, out: &mut [u8]) -> usize
     put_digits(10, 20, x, out)
 }
 
-// The same with a minus sign before it where it is negative.
+// The same with a minus sign before it where it is negative. The sign stands beside the size, as
+// `units::Signed` tells both.
 pub fn put_signed(negative: bool, size: u64, out: &mut [u8]) -> usize
     requires { 21 ≤ length out.old }
     ensures { Written (signed negative size) 21 out.old result out.new }
@@ -83,7 +86,8 @@ pub fn put_item(x: u64, after: u8, out: &mut [u8]) -> usize
     n + 1
 }
 
-// A line: numbers with single spaces between them, and a newline.
+// A line: numbers with single spaces between them, and a newline. It keeps its own place in the
+// buffer: `place::Page` is of a crate above this one.
 pub fn put_numbers(v: &[u64], out: &mut [u8]) -> usize
     requires { (1 ≤ length v.now) × (length v.now * 21 ≤ length out.old) }
     ensures { Written (spaced v.now ++ (10 ∷ [])) (length v.now * 21) out.old result out.new }

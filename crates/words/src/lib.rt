@@ -32,7 +32,7 @@ pub fn content(line: &[u8]) -> &[u8]
     trimmed(lines::until(line, b'#'))
 }
 
-// Word k, counted from 0.
+// Word k, counted from 0; a text and the number of a word, here and below.
 #[tactic(auto, unfolding(crate::specs::Words::word_at))]
 pub fn word(s: &[u8], k: usize) -> &[u8]
     ensures { result.now ≡ word_at s.now k }
@@ -130,15 +130,17 @@ fn pair_at(w: &[u8], k: usize) -> u8
 }
 
 // The bytes of a word of pairs, put at the start of a buffer; answers how many. The pairs go by their
-// places: a loop over `w.chunks_exact(2)` was tried and found no proof.
+// places: behind a `zip` with `w.chunks_exact(2)` nothing is known of the buffer's bytes. That a word
+// fits is one inequality between two lent buffers, here and at its callers, and a name for it would
+// say less.
 #[tactic(auto, unfolding(crate::specs::Hex::bytes_of))]
 pub fn put_pairs(w: &[u8], out: &mut [u8]) -> usize
     requires { length w.now ≤ 2 * length out.old }
     ensures { Written (bytes_of w.now) (length w.now / 2) out.old result out.new }
 {
     let n = w.len() / 2;
-    for i in 0..n {
-        out[i] = pair_at(w, i);
+    for (i, byte) in out[..n].iter_mut().enumerate() {
+        *byte = pair_at(w, i);
     }
     n
 }

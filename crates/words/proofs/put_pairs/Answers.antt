@@ -1,27 +1,24 @@
--- The next pair's byte is stored behind those that stand already.
-use Rattle.std.proofs.Common.{◌≡◌, ◌/◌, length, refl, arith}
-use lib.ListN.{length-set}
+-- After the last turn all pairs stand there.
+use Rattle.std.proofs.Common.{ℕ, ◌≡◌, ◌/◌, length, length-take, map, take, arith, sym, ◌∙◌}
+use Rattle.std.proofs.lemmas.List.{take_more_set}
 use Rattle.std.proofs.lemmas.List.FromFn.{map-range_with_len_more}
-use Rattle.text.proofs.Behind.{nothing, byte-behind}
+use lib.Seq.{take_all}
+use Rattle.std.specs.List.{range_with_len}
+use Rattle.text.specs.Decimal.{starting_with}
 use Rattle.words.specs.Hex.{pair_at, bytes_of}
+use Rattle.words.proofs.Lengths.{bytes-length}
 use Rattle.words.proofs.put_pairs.Goals as goal
-
-pub loop-i-init : goal.loop-i-init
-loop-i-init c = record { half = refl; same = refl; put = nothing c.args.out.now }
 
 pub loop-i-preserved : goal.loop-i-preserved
 loop-i-preserved c =
-    let w = c.args.w.now in
     let i = c.loop-i.i in
-    let g = byte-behind (pair_at w i) c.loop-i.invariant.put (omega arith) in
-    record {
-      half = refl;
-      same = simp length-set c.loop-i.invariant.same;
-      put = rw (map-range_with_len_more (pair_at w) 0 i i (omega arith), c.pair_at.ensures) g;
-    }
+    rw (take_more_set c.loop-i.byte-items i c.pair_at.result (omega arith), c.loop-i.invariant, c.pair_at.ensures, map-range_with_len_more (pair_at c.args.w.now) 0 i i (omega arith))
 
 pub returns : goal.returns
-unfolding bytes_of
+unfolding bytes_of starting_with
 returns c =
-    let end : c.loop-i.i ≡ length c.args.w.now / 2 = omega arith in
-    rw end at c.loop-i.invariant.put
+    let w = c.args.w.now in
+    let end : c.loop-i.i ≡ length w / 2 = omega (arith, length-take {A = ℕ}) in
+    let all : take c.loop-i.i c.loop-i.byte-items ≡ c.loop-i.byte-items = take_all _ _ (omega arith) in
+    let bytes : c.loop-i.byte-items ≡ map (pair_at w) (range_with_len 0 (length w / 2)) = sym all ∙ c.loop-i.invariant ∙ rw end in
+    record { count = sym (bytes-length w); few = omega arith; buffer = rw (bytes, bytes-length w) }
