@@ -1,5 +1,5 @@
 -- The days in force are one run of days, and when the runs of two plans meet. Assumes nothing.
-use mathlib.Core.Path.{◌≡◌, refl}
+use mathlib.Core.Path.{◌≡◌, refl, sym, ◌∙◌}
 use mathlib.Core.Bool.{true, false, ◌&&◌}
 use Prim.Native.Nat.{ℕ, ◌≤◌, ◌<◌, min, max}
 use native.Mathlib.Omega.{arith}
@@ -8,7 +8,7 @@ use borrow.Author.Tests.{ltb-true, ltb-false, leb-true, lt-ltb, le-ltb, le-leb}
 use Rattle.calendar.specs.declared.Cycle.{Cycle}
 use Rattle.calendar.specs.declared.Cycle.TheVariants.{Window, Runs}
 use Rattle.calendar.specs.Date.{is_date}
-use Rattle.answer.proofs.Tests.{cases, split}
+use Rattle.answer.proofs.Tests.{cases, split, never}
 use Rattle.plan.specs.declared.Plan.{Plan}
 use Rattle.plan.specs.Plan.{cycle}
 use Rattle.plan.specs.Rules.{extra_days, some_day, is_good}
@@ -44,6 +44,14 @@ module _ (p : Plan) (d : ℕ) where
   pub within-force : first_day p ≤ d → d < end_day p → in_force p d ≡ true
   unfolding in_force first_day end_day
   within-force h k = within-by (cycle p) p d h k
+
+-- so they are the dates of that run
+pub on-days : (p : Plan) (d : ℕ) → in_force p d ≡ in_period (first_day p) (end_day p) d
+on-days p d = cases (in_force p d)
+    (λ e. let k = force-within p d e in e ∙ sym (inside (first_day p) (end_day p) d k.0 k.1))
+    (λ e. cases (in_period (first_day p) (end_day p) d)
+    (λ f. let k = within (first_day p) (end_day p) d f in absurd (never (within-force p d k.0 k.1) e))
+    (λ f. e ∙ sym f))
 
 -- between two dates in force every date is
 pub convex : (p : Plan) (a b c : ℕ) → a ≤ b → b ≤ c → in_force p a ≡ true → in_force p c ≡ true → in_force p b ≡ true

@@ -1,43 +1,28 @@
 // Document 01, "Days in force and cycles".
-ghost use Rattle.std.specs.Prelude.{◌≡◌, true};
-ghost use Rattle.calendar.specs.Date.{is_date};
-ghost use Rattle.plan.specs.Rules.{is_good};
+ghost use Rattle.std.specs.Prelude.{◌≡◌};
 ghost use Rattle.plan.specs.Force.{in_force, first_day, end_day, meet};
 ghost use Rattle.plan.specs.Cycles.{cycle_of};
 
 use crate::Plan;
 use calendar::Cycle;
+use std::ops::Range;
 
 impl Plan {
-    #[tactic(auto, unfolding(crate::specs::Force::in_force))]
+    // The days in force; with word 04 only those also in the window.
+    #[tactic(auto, unfolding(crate::specs::Force::first_day, crate::specs::Force::end_day))]
+    fn days(self) -> Range<u32>
+        ensures { result ≡ record { start = first_day self; end = end_day self } }
+    {
+        match self.cycle() {
+            Cycle::Window => self.start.max(self.first)..self.end.min(self.second),
+            _ => self.start..self.end,
+        }
+    }
+
     pub fn in_force(self, d: u32) -> bool
         ensures { result ≡ in_force self d }
     {
-        (self.start..self.end).contains(&d)
-            && match self.cycle() {
-                Cycle::Window => (self.first..self.second).contains(&d),
-                _ => true,
-            }
-    }
-
-    #[tactic(auto, unfolding(crate::specs::Force::first_day))]
-    fn first_day(self) -> u32
-        ensures { result ≡ first_day self }
-    {
-        match self.cycle() {
-            Cycle::Window => self.start.max(self.first),
-            _ => self.start,
-        }
-    }
-
-    #[tactic(auto, unfolding(crate::specs::Force::end_day))]
-    fn end_day(self) -> u32
-        ensures { result ≡ end_day self }
-    {
-        match self.cycle() {
-            Cycle::Window => self.end.min(self.second),
-            _ => self.end,
-        }
+        self.days().contains(&d)
     }
 
     // Whether some date on or after `d` is in force under both plans.
@@ -45,15 +30,13 @@ impl Plan {
     pub fn meets(self, other: Plan, d: u32) -> bool
         ensures { result ≡ meet self other d }
     {
-        let from = d.max(self.first_day().max(other.first_day()));
-        from < self.end_day().min(other.end_day())
+        let (a, b) = (self.days(), other.days());
+        d.max(a.start.max(b.start)) < a.end.min(b.end)
     }
 
-    // The cycle that a date lies in, by a number that tells the plan's cycles apart.
-    #[tactic(auto, unfolding(crate::specs::Cycles::cycle_of), using(crate::proofs::Good::good))]
+    // The cycle that a date lies in, by a number that tells the plan's cycles apart, in their order.
+    #[tactic(auto, unfolding(crate::specs::Cycles::cycle_of))]
     pub fn cycle_of(self, d: u32) -> u32
-        requires self_value { is_good self ≡ true }
-        requires d_value { is_date d ≡ true }
         ensures { result ≡ cycle_of self d }
     {
         match self.cycle() {

@@ -34,24 +34,17 @@ impl Plan {
         !self.has_extra() || (eight_digits(self.first as u64) && eight_digits(self.second as u64))
     }
 
-    fn pair_good(self, i: usize) -> bool
-        requires { i < most_steps }
-        ensures { result ≡ pair_good self i }
-    {
-        eight_digits(self.widths[i].0 as u64) && eight_digits(self.prices[i].0)
-    }
-
-    #[tactic(auto, unfolding(crate::specs::Rules::every))]
     fn pairs_good(self) -> bool
-        requires { self.steps ≤ most_steps }
         ensures { result ≡ every (pair_good self) self.steps }
     {
-        (0..self.steps as usize).all(|i| self.pair_good(i))
+        let n = self.steps as usize;
+        let mut widths = self.widths.iter().take(n);
+        let mut prices = self.prices.iter().take(n);
+        widths.all(|width| eight_digits(width.0 as u64)) & prices.all(|price| eight_digits(price.0))
     }
 
     #[tactic(auto, unfolding(crate::specs::Rules::numbers_good))]
     fn numbers_good(self) -> bool
-        requires { self.steps ≤ most_steps }
         ensures { result ≡ numbers_good self }
     {
         eight_digits(self.start as u64)
@@ -93,12 +86,12 @@ impl Plan {
         self.start < self.end && self.extra_days_good()
     }
 
-    #[tactic(auto, unfolding(crate::specs::Rules::every, crate::specs::Rules::priced))]
     fn priced(self) -> bool
         requires { self.steps ≤ most_steps }
         ensures { result ≡ priced self }
     {
-        (0..self.steps as usize).all(|i| 1 <= self.prices[i].0)
+        let n = self.steps as usize;
+        self.prices[..n].iter().all(|price| 1 <= price.0)
     }
 
     // Refusals 2 to 7, in their order.
@@ -114,8 +107,7 @@ impl Plan {
         need(self.priced(), Refusal::NoPrice)
     }
 
-    // Whether none of them refuses the plan. Plans are kept as C structs: a type of good plans would be
-    // made again at each use, under this same fact.
+    // Whether none of them refuses the plan.
     #[tactic(auto, unfolding(crate::specs::Rules::is_good))]
     pub fn is_good(self) -> bool
         ensures { result ≡ is_good self }
