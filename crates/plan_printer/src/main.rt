@@ -3,6 +3,7 @@
 #![tactic(auto)]
 
 ghost use Rattle.std.specs.Prelude.{◌*◌, ◌≤◌, length, IfOk};
+ghost use Rattle.printer.specs.Line.{most_line};
 ghost use Rattle.printer.specs.Records.{records_in};
 
 use std::io;
@@ -25,14 +26,14 @@ fn read_full(input: &mut impl Read, records: &mut [u8]) -> io::Result<usize>
 }
 
 // Reads as many records as fit, prints their lines, and answers whether more may follow: not after
-// the end of the input.
+// the end of the input. A struct of the four that are lent would be made for one call.
 fn print_some(
     input: &mut impl Read,
     output: &mut impl Write,
     records: &mut [u8],
     text: &mut [u8],
 ) -> io::Result<bool>
-    requires { 378 * records_in records.old ≤ length text.old }
+    requires { most_line * records_in records.old ≤ length text.old }
 {
     let got = read_full(input, records)?;
     let n = printer::lines(&records[..got], text);
@@ -49,7 +50,7 @@ fn print_all(
     records: &mut [u8],
     text: &mut [u8],
 ) -> io::Result<()>
-    requires { 378 * records_in records.old ≤ length text.old }
+    requires { most_line * records_in records.old ≤ length text.old }
 {
     for _ in 0..u64::MAX {
         if !print_some(input, output, records, text)? {
@@ -59,10 +60,10 @@ fn print_all(
     Ok(())
 }
 
-// Room for 992 records, and for as many lines of at most 378 bytes.
+// Room for 992 records, and for as many lines.
 #[tactic(auto, unfolding(printer::specs::Records::records_in))]
 fn main(rt: HostRuntime) -> io::Result<()> {
     let mut records = [0u8; 65_472];
-    let mut text = [0u8; 374_976];
+    let mut text = [0u8; 992 * printer::MOST_LINE];
     print_all(&mut rt.stdin(), &mut rt.stdout(), &mut records, &mut text)
 }

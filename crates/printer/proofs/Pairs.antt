@@ -6,7 +6,7 @@ use lib.ListN.{length}
 use native.Mathlib.Omega.{arith}
 use Rattle.plan.specs.declared.Plan.{Plan}
 use Rattle.plan.specs.Plan.{width_at, price_at, has_extra}
-use Rattle.text.proofs.Digits.{cases}
+use Rattle.answer.proofs.Tests.{cases}
 use Rattle.printer.specs.Line.{pairs_from, head_of}
 
 pub no_pairs : (p : Plan) → pairs_from p 0 0 ≡ []

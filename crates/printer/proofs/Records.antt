@@ -1,30 +1,44 @@
 -- Records one behind another, and their lines. Assumes nothing.
-use mathlib.Core.Path.{◌≡◌, refl, sym, ◌∙◌}
-use mathlib.Core.List.{List, [], ◌++◌, append_assoc, append-nil}
-use Prim.Native.Nat.{ℕ, zero, suc, ◌+◌, ◌-◌, ◌*◌, ◌≤◌, ◌<◌}
+use mathlib.Core.Path.{◌≡◌, refl, sym, ap, ◌∙◌}
+use mathlib.Core.List.{List, [], ◌∷◌, ◌++◌, append_assoc, append-nil}
+use Prim.Native.Nat.{ℕ, zero, suc, ◌+◌, ◌*◌, ◌≤◌, ◌<◌, min}
 use native.Mathlib.Omega.{arith}
 use native.Mathlib.Nat.{add-zero, add-suc}
 use native.Mathlib.Numerals.{add-one}
-use lib.ListN.{length, take, drop, length-append, length-drop}
-use lib.Seq.{take_all, take-append-le, drop-append-le, drop-append-add}
+use lib.ListN.{length, take, drop, length-append, length-drop, drop_of_length-le}
+use lib.Seq.{take_all, take_at, drop_at, drop-drop, take-append-le, drop-append-le, drop-append-add}
 use Rattle.printer.specs.Line.{line_of}
 use Rattle.printer.specs.Records.{records_in, record_at, lines_to, lines_of}
 
--- a short last record is all that is left
-pub short-record : (s : List ℕ) (i : ℕ) → length s - 66 * i < 66 → take (length s - 66 * i) (drop (66 * i) s) ≡ record_at s i
-unfolding record_at
-short-record s i h =
-    let l = length-drop (66 * i) s in
-    take_all (length s - 66 * i) (drop (66 * i) s) (omega arith) ∙ sym (take_all 66 (drop (66 * i) s) (omega arith))
+-- a part x at the front of a list: 66 bytes, or all of it
+front-part : (l x tail : List ℕ) → l ≡ x ++ tail → length x ≡ min 66 (length l) → (x ≡ take 66 l) × (tail ≡ drop 66 l)
+front-part l x [] e h =
+    let n : length l ≡ length x + 0 = ap length e ∙ length-append x [] in
+    (sym (append-nil x) ∙ sym e ∙ sym (take_all 66 l (omega arith)), sym (drop_of_length-le l {i = 66} (omega arith)))
+front-part l x (y ∷ tail) e h =
+    let n : length l ≡ length x + suc (length tail) = ap length e ∙ length-append x (y ∷ tail) in
+    let k : length x ≡ 66 = omega arith in
+    (sym (ap (take 66) e ∙ take_at x (y ∷ tail) 66 k), sym (ap (drop 66) e ∙ drop_at x (y ∷ tail) 66 k))
 
-pub whole-record : (s : List ℕ) (i : ℕ) → take (66 * i + 66 - 66 * i) (drop (66 * i) s) ≡ record_at s i
-unfolding record_at
-whole-record s i = let e : 66 * i + 66 - 66 * i ≡ 66 = omega arith in rw e
+-- the first part of what stands behind n records is the next record
+module _ (s : List ℕ) (n : ℕ) where
+  module _ (x tail : List ℕ) (e : drop (66 * n) s ≡ x ++ tail) (h : length x ≡ min 66 (length (drop (66 * n) s))) where
+    pub next-record : x ≡ record_at s n
+    unfolding record_at
+    next-record = (front-part (drop (66 * n) s) x tail e h).0
 
--- each record has a byte
-pub record-begins : (s : List ℕ) (i : ℕ) → i < records_in s → 66 * i < length s
-unfolding records_in
-record-begins s i h = omega arith
+    pub rest-behind : tail ≡ drop (66 * (n + 1)) s
+    rest-behind =
+        let k : 66 * n + 66 ≡ 66 * (n + 1) = omega arith in
+        (front-part (drop (66 * n) s) x tail e h).1 ∙ drop-drop 66 (66 * n) s ∙ ap (λ (i : ℕ). drop i s) k
+
+  pub more-records : 0 < length (drop (66 * n) s) → n + 1 ≤ records_in s
+  unfolding records_in
+  more-records h = omega (arith, length-drop (66 * n) s)
+
+  pub all-records : n ≤ records_in s → length (drop (66 * n) s) ≡ 0 → n ≡ records_in s
+  unfolding records_in
+  all-records l h = omega (arith, length-drop (66 * n) s)
 
 pub no_lines : (s : List ℕ) → lines_to s 0 ≡ []
 unfolding lines_to

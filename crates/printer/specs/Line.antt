@@ -8,6 +8,10 @@ use Rattle.plan.specs.declared.Plan.{Plan}
 use Rattle.plan.specs.Plan.{width_at, price_at, cycle_word, has_extra}
 use Rattle.record.specs.Record.{read_of}
 
+-- the most bytes of a line: eighteen numbers, each of at most twenty digits and a byte behind them
+abbrev pub most_line : ℕ
+most_line = 378
+
 -- n pairs of volume and price, from pair i on
 unfoldable pub pairs_from : Plan → ℕ → ℕ → List ℕ
 pairs_from p zero i = []

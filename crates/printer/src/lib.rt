@@ -2,64 +2,30 @@
 // another, put into a lent buffer.
 #![tactic(auto)]
 
-ghost use Rattle.std.specs.Prelude.{◌≡◌, true, ℕ, List, [], ◌∷◌, ◌++◌, ◌*◌, ◌≤◌, ◌<◌, length, take};
+ghost use Rattle.std.specs.Prelude.{◌≡◌, true, [], ◌∷◌, ◌++◌, ◌*◌, ◌≤◌, length};
 ghost use Rattle.text.specs.Decimal.{decimal, spaced};
 ghost use Rattle.text.specs.Written.{Written};
 ghost use Rattle.answer.specs.Answer.{number_of};
 ghost use Rattle.plan.specs.Plan.{most_steps};
 ghost use Rattle.plan.specs.Rules.{is_good};
-ghost use Rattle.record.specs.Fields.{record_length};
-ghost use Rattle.printer.specs.Line.{head_of, numbers_of, refused_word, line_of};
-ghost use Rattle.printer.specs.Records.{records_in, record_at, lines_of};
+ghost use Rattle.printer.specs.Line.{most_line, head_of, numbers_of, refused_word, line_of};
+ghost use Rattle.printer.specs.Records.{records_in, lines_of};
 
 use answer::Refusal;
+use arrayvec::ArrayVec;
 use plan::Plan;
-use std::marker::Model;
+
+// The most bytes of a line, and so the room that the functions below ask for. A buffer of the type
+// `[u8; MOST_LINE]` would ask for that length exactly, which is more.
+pub const MOST_LINE: usize = 378;
 
 // The numbers of a line: at most eighteen, of 21 bytes each.
-#[derive(Drop)]
-struct Numbers {
-    items: [u64; 18],
-    count: usize,
-}
-
-impl Model for Numbers {
-    ghost Value = { List ℕ };
-
-    ghost view = { λ n. take n.count n.items };
-
-    ghost invariant = { λ n. n.count ≤ 18 };
-}
-
-impl Numbers {
-    fn new() -> Numbers
-        ensures { result ≡ [] }
-    {
-        Numbers {
-            items: [0; 18],
-            count: 0,
-        }
-    }
-
-    fn push(&mut self, x: u64)
-        requires { length self.old < 18 }
-        ensures { self.new ≡ self.old ++ (x ∷ []) }
-    {
-        self.items[self.count] = x;
-        self.count += 1;
-    }
-
-    fn as_slice(&self) -> &[u64]
-        ensures { result.now ≡ self.now }
-    {
-        &self.items[..self.count]
-    }
-}
+type Numbers = ArrayVec<u64, 18>;
 
 // The numbers before the pairs: four, and the extra fields if they are read.
 #[tactic(auto, unfolding(crate::specs::Line::head_of))]
 fn head_of(p: Plan) -> Numbers
-    ensures { result ≡ head_of p }
+    ensures { result.items ≡ head_of p }
 {
     let mut numbers = Numbers::new();
     numbers.push(u64::from(p.start));
@@ -76,29 +42,31 @@ fn head_of(p: Plan) -> Numbers
 // The numbers of a plan's line.
 fn numbers_of(p: Plan) -> Numbers
     requires { p.steps ≤ most_steps }
-    ensures value { result ≡ numbers_of p }
-    ensures some { (1 ≤ length result) × (length result ≤ 18) }
+    ensures value { result.items ≡ numbers_of p }
+    ensures some { (1 ≤ length result.items) × (length result.items ≤ 18) }
 {
     let mut numbers = head_of(p);
-    for i in 0..usize::from(p.steps) {
-        numbers.push(u64::from(p.widths[i].0));
-        numbers.push(p.prices[i].0);
+    let read = usize::from(p.steps);
+    for (width, price) in p.widths.iter().zip(&p.prices[..read]) {
+        numbers.push(u64::from(width.0));
+        numbers.push(price.0);
     }
     numbers
 }
 
-// The line of a plan that was read.
+// The line of a plan that was read, and so is a good one: the plan is a C struct, whose type cannot say it.
 fn plan_line(p: Plan, out: &mut [u8]) -> usize
-    requires { (is_good p ≡ true) × (378 ≤ length out.old) }
-    ensures { Written (spaced (numbers_of p) ++ (10 ∷ [])) 378 out.old result out.new }
+    requires { (is_good p ≡ true) × (most_line ≤ length out.old) }
+    ensures { Written (spaced (numbers_of p) ++ (10 ∷ [])) most_line out.old result out.new }
 {
     text::put_numbers(numbers_of(p).as_slice(), out)
 }
 
-// The line of a refusal.
+// The line of a refusal. `report` has its own, on a `Page` of crate `place`, which prints units of a
+// meter: the lines here are plain numbers, so this crate does without it.
 fn refusal_line(refusal: Refusal, out: &mut [u8]) -> usize
-    requires { 378 ≤ length out.old }
-    ensures { Written (refused_word ++ (decimal (number_of refusal) ++ (10 ∷ []))) 378 out.old result out.new }
+    requires { most_line ≤ length out.old }
+    ensures { Written (refused_word ++ (decimal (number_of refusal) ++ (10 ∷ []))) most_line out.old result out.new }
 {
     let at = text::put_bytes(b"refused ", out);
     at + text::put_item(u64::from(u8::from(refusal)), b'\n', &mut out[at..])
@@ -106,8 +74,8 @@ fn refusal_line(refusal: Refusal, out: &mut [u8]) -> usize
 
 // The line of a record, a slice of any length.
 pub fn line(s: &[u8], out: &mut [u8]) -> usize
-    requires { 378 ≤ length out.old }
-    ensures { Written (line_of s.now) 378 out.old result out.new }
+    requires { most_line ≤ length out.old }
+    ensures { Written (line_of s.now) most_line out.old result out.new }
 {
     match record::read(s) {
         Ok(plan) => plan_line(plan, out),
@@ -115,30 +83,15 @@ pub fn line(s: &[u8], out: &mut [u8]) -> usize
     }
 }
 
-// Record i of those that stand one behind another in s; the last may be short.
-fn record_at(s: &[u8], i: usize) -> &[u8]
-    requires { record_length * i < length s.now }
-    ensures { result.now ≡ record_at s.now i }
-{
-    let from = record::LENGTH * i;
-    if s.len() - from < record::LENGTH {
-        return &s[from..];
-    }
-    let to = from + record::LENGTH;
-    &s[from..to]
-}
-
-// The lines of all the records in s. A loop over `chunks` was tried, and its proof did not close: no
-// lemma of std's says which chunk a turn has.
+// The lines of all the records in s, that stand one behind another; the last may be short.
 #[tactic(auto, unfolding(crate::specs::Records::records_in))]
 pub fn lines(s: &[u8], out: &mut [u8]) -> usize
-    requires { 378 * records_in s.now ≤ length out.old }
+    requires { most_line * records_in s.now ≤ length out.old }
     ensures { Written (lines_of s.now) (length out.old) out.old result out.new }
 {
-    let count = s.len().div_ceil(record::LENGTH);
     let mut at = 0;
-    for i in 0..count {
-        at += line(record_at(s, i), &mut out[at..]);
+    for record in s.chunks(record::LENGTH) {
+        at += line(record, &mut out[at..]);
     }
     at
 }

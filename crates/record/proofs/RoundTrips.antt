@@ -19,7 +19,7 @@ use Rattle.plan.specs.Rules.{most_number, eight_digits, numbers_good, verdict, i
 use Rattle.plan.proofs.Good.{tests, verdict-good, width-bound, price-range}
 use Rattle.plan.proofs.Tidy.{tidy-verdict, tidy-again}
 use Rattle.record.specs.Digits.{quad_at, four_bytes}
-use Rattle.record.specs.Fields.{record_length, fields_of, bytes_of, byte_read}
+use Rattle.record.specs.Fields.{record_length, fields_of, eight_bytes, bytes_of, byte_read}
 use Rattle.record.specs.Record.{read_of, plan_in, write_answer, read_byte}
 use Rattle.record.specs.RoundTrips.{WrittenRead, ReadWritten, RoundTrips}
 use Rattle.record.proofs.Accepted.{read-verdict, read-plan, fields-good}
@@ -62,7 +62,7 @@ module _ (p : Plan) (h : is_good p ≡ true) where
 
   -- each field is read from the bytes that it was written in
   fields_back : fields_of (bytes_of (tidy p)) ≡ tidy p
-  unfolding fields_of bytes_of tidy
+  unfolding fields_of bytes_of eight_bytes tidy
   fields_back =
       rw (
         quad-back p.start numbers.0,
@@ -119,7 +119,7 @@ module _ (s : List ℕ) (h : is_good (fields_of s) ≡ true) where
       (field-kept s t j (λ l. rw f at (price-range p h k (ltb-true _ _ l)).1)))
 
   bytes-kept : bytes_of (tidy (fields_of s)) ≡ table (read_byte s) record_length
-  unfolding fields_of bytes_of byte_read tidy cycle_word
+  unfolding fields_of bytes_of eight_bytes byte_read tidy cycle_word
   bytes-kept =
       let n = numbers (fields_of s) h in
       let x : Bool = has_extra (fields_of s) in

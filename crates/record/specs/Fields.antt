@@ -1,7 +1,6 @@
 -- Document 01, "Plan record (Table C.1)": "Always 66 bytes ..: start 4, end 4, steps 1, cycle word 1, first extra field 4, second extra
 -- field 4, then six pairs of volume 4 and price 4."
-use Rattle.std.specs.Prelude.{Bool, true, cond, not, List, ◌∷◌, ◌++◌, ℕ, zero, suc, ◌+◌, ◌-◌, ◌*◌, ◌/◌, ltb, get_or}
-use Rattle.std.proofs.lemmas.List.Edits.{sets}
+use Rattle.std.specs.Prelude.{Bool, true, cond, not, List, ◌∷◌, ◌++◌, ℕ, ◌+◌, ◌-◌, ◌*◌, ◌/◌, ltb, get_or}
 use Rattle.units.specs.declared.Hundredths.{Hundredths}
 use Rattle.units.specs.declared.TenThousandths.{TenThousandths}
 use Rattle.units.specs.Volume.{volume, price}
@@ -32,24 +31,19 @@ fields_of s = record {
   prices = prices_of s;
 }
 
--- a buffer with the bytes of two numbers, one behind the other, from byte i on
-unfoldable pub two_at : List ℕ → ℕ → ℕ → ℕ → List ℕ
-two_at l i x y = sets l i (four_bytes x ++ four_bytes y)
-
--- a buffer l after the first n pairs were written into it
-abbrev pub pairs_in : Plan → List ℕ → ℕ → List ℕ
-pairs_in p l zero = l
-pairs_in p l (suc n) = two_at (pairs_in p l n) (18 + 8 * n) (width_at p n) (price_at p n)
+-- two numbers in bytes, one behind the other
+unfoldable pub eight_bytes : ℕ → ℕ → List ℕ
+eight_bytes x y = four_bytes x ++ four_bytes y
 
 -- pair i in bytes: volume 4, price 4
 abbrev pub pair_bytes : Plan → ℕ → List ℕ
-pair_bytes p i = four_bytes (width_at p i) ++ four_bytes (price_at p i)
+pair_bytes p i = eight_bytes (width_at p i) (price_at p i)
 
 -- a plan in bytes, every field of it
 unfoldable pub bytes_of : Plan → List ℕ
 bytes_of p =
-    four_bytes p.start ++ (four_bytes p.end ++ (p.steps ∷ p.word ∷ (four_bytes p.first ++ (four_bytes p.second
-    ++ (pair_bytes p 0 ++ (pair_bytes p 1 ++ (pair_bytes p 2 ++ (pair_bytes p 3 ++ (pair_bytes p 4 ++ pair_bytes p 5)))))))))
+    eight_bytes p.start p.end ++ (p.steps ∷ p.word ∷ (eight_bytes p.first p.second
+    ++ (pair_bytes p 0 ++ (pair_bytes p 1 ++ (pair_bytes p 2 ++ (pair_bytes p 3 ++ (pair_bytes p 4 ++ pair_bytes p 5)))))))
 
 -- whether byte i of a record is read, for a plan with its fields: dates and steps always; the cycle word with two steps or more; the
 -- extra fields with words 04 and 05; pair k below n

@@ -2,10 +2,10 @@
 // force": 66 bytes, two decimal digits a byte, high digit first.
 #![tactic(auto)]
 
-ghost use Rattle.std.specs.Prelude.{◌≡◌, ◌+◌, ◌≤◌, length};
-ghost use Rattle.std.proofs.lemmas.List.Edits.{sets};
+ghost use Rattle.std.specs.Prelude.{◌≡◌, ◌+◌, ◌≤◌, ◌<◌, length};
+ghost use Rattle.plan.specs.Plan.{most_steps, six};
 ghost use Rattle.record.specs.Digits.{number_of, quad_of, quad_at, four_bytes};
-ghost use Rattle.record.specs.Fields.{record_length, widths_of, prices_of, fields_of, two_at, pairs_in, bytes_of};
+ghost use Rattle.record.specs.Fields.{widths_of, prices_of, fields_of, eight_bytes, pair_bytes, bytes_of};
 ghost use Rattle.record.specs.Record.{read_of, write_answer, written};
 ghost use Rattle.record.specs.Choice.{one_in_force, choice_of, part_chosen, part_of, handed};
 
@@ -17,22 +17,23 @@ use units::{Hundredths, TenThousandths};
 // The bytes of a record.
 pub const LENGTH: usize = 66;
 
-// Which of two records.
+// Which of two records. Only its shape is that of slots' `SlotName` and records' `Shelf`; it names
+// another thing.
 #[derive(Clone, Copy, PartialEq, Eq)]
 pub enum Which {
     First,
     Second,
 }
 
-// The number of four bytes.
+// The number that the digits of four bytes say; no conversion of a type.
 fn number(a: u8, b: u8, c: u8, d: u8) -> u32
     ensures { result ≡ number_of a b c d }
 {
     ((digits::pair(a) * 100 + digits::pair(b)) * 100 + digits::pair(c)) * 100 + digits::pair(d)
 }
 
-// The field of four bytes: its number, or 100,000,000 where a digit is above 9, which refusal 4 tells
-// from the plan, as in writing.
+// The number of four bytes; 100,000,000 where a digit is above 9, so that one test of refusal 4
+// serves reading and writing.
 #[tactic(auto, unfolding(crate::specs::Digits::quad_of))]
 fn quad(a: u8, b: u8, c: u8, d: u8) -> u32
     ensures { result ≡ quad_of a b c d }
@@ -44,7 +45,8 @@ fn quad(a: u8, b: u8, c: u8, d: u8) -> u32
     100_000_000
 }
 
-// The field that begins at byte `at`.
+// The number in the field that begins at byte `at`; `quad(&s[at..at + 4])` would name the place
+// twice.
 fn quad_at(s: &[u8], at: usize) -> u32
     requires { at + 4 ≤ length s.now }
     ensures { result ≡ quad_at s.now at }
@@ -52,16 +54,15 @@ fn quad_at(s: &[u8], at: usize) -> u32
     quad(s[at], s[at + 1], s[at + 2], s[at + 3])
 }
 
-// The six volumes, and the six prices.
-fn widths_of(s: &[u8]) -> [Hundredths; Plan::MOST_STEPS]
-    requires { length s.now ≡ record_length }
+// The six volumes, and the six prices. One function for both would take a place and a closure, and
+// be no shorter.
+fn widths_of(s: &[u8; LENGTH]) -> [Hundredths; Plan::MOST_STEPS]
     ensures { result ≡ widths_of s.now }
 {
     array::from_fn(|i| Hundredths(quad_at(s, 18 + 8 * i)))
 }
 
-fn prices_of(s: &[u8]) -> [TenThousandths; Plan::MOST_STEPS]
-    requires { length s.now ≡ record_length }
+fn prices_of(s: &[u8; LENGTH]) -> [TenThousandths; Plan::MOST_STEPS]
     ensures { result ≡ prices_of s.now }
 {
     array::from_fn(|i| TenThousandths(quad_at(s, 22 + 8 * i) as u64))
@@ -69,8 +70,7 @@ fn prices_of(s: &[u8]) -> [TenThousandths; Plan::MOST_STEPS]
 
 // The fields of a record as it stands.
 #[tactic(auto, unfolding(crate::specs::Fields::fields_of))]
-fn fields_of(s: &[u8]) -> Plan
-    requires { length s.now ≡ record_length }
+fn fields_of(s: &[u8; LENGTH]) -> Plan
     ensures { result ≡ fields_of s.now }
 {
     Plan {
@@ -85,59 +85,76 @@ fn fields_of(s: &[u8]) -> Plan
     }
 }
 
-// Reads a plan from a lent slice of any length: its read fields, or 1 to 7.
+// Reads a plan from a lent slice of any length: its read fields, or 1 to 7. `Plan` is another
+// crate's type, so no `TryFrom` stands here.
 #[tactic(auto, unfolding(crate::specs::Record::read_of))]
 pub fn read(s: &[u8]) -> Result<Plan, Refusal>
     ensures { result ≡ read_of s.now }
 {
-    need(s.len() == LENGTH, Refusal::RecordLength)?;
-    let p = fields_of(s);
+    let p = fields_of(s.as_array().ok_or(Refusal::RecordLength)?);
     p.vet()?;
     Ok(p.tidy())
 }
 
-// Writes a number of eight digits into the four bytes that begin at byte `at`.
-fn put_quad(x: u64, at: usize, out: &mut [u8])
-    requires { at + 4 ≤ length out.old }
-    ensures { out.new ≡ sets out.old at (four_bytes x) }
+// The four bytes of a number of eight digits.
+fn four_bytes(x: u64) -> [u8; 4]
+    ensures { result ≡ four_bytes x }
 {
-    out[at] = digits::bcd(x / 1_000_000 % 100);
-    out[at + 1] = digits::bcd(x / 10_000 % 100);
-    out[at + 2] = digits::bcd(x / 100 % 100);
-    out[at + 3] = digits::bcd(x % 100);
+    [
+        digits::bcd(x / 1_000_000 % 100),
+        digits::bcd(x / 10_000 % 100),
+        digits::bcd(x / 100 % 100),
+        digits::bcd(x % 100),
+    ]
 }
 
-// Writes two numbers, one behind the other, into the eight bytes that begin at byte `at`.
-#[tactic(auto, unfolding(crate::specs::Fields::two_at))]
-fn put_two(x: u64, y: u64, at: usize, out: &mut [u8])
-    requires { at + 8 ≤ length out.old }
-    ensures { out.new ≡ two_at out.old at x y }
+// The bytes of two numbers, one behind the other.
+#[tactic(auto, unfolding(crate::specs::Fields::eight_bytes))]
+fn eight_bytes(x: u64, y: u64) -> [u8; 8]
+    ensures { result ≡ eight_bytes x y }
 {
-    put_quad(x, at, out);
-    put_quad(y, at + 4, out);
+    let mut bytes = [0; 8];
+    bytes[..4].copy_from_slice(&four_bytes(x));
+    bytes[4..].copy_from_slice(&four_bytes(y));
+    bytes
 }
 
-// Writes the six pairs of volume and price.
-fn put_pairs(p: Plan, out: &mut [u8])
-    requires { length out.old ≡ record_length }
-    ensures { out.new ≡ pairs_in p out.old 6 }
+// The bytes of pair i: its volume and its price, from the two arrays that the C header lays out.
+fn pair_bytes(p: Plan, i: usize) -> [u8; 8]
+    requires { i < most_steps }
+    ensures { result ≡ pair_bytes p i }
 {
-    for i in 0..Plan::MOST_STEPS {
-        put_two(p.widths[i].0 as u64, p.prices[i].0, 18 + 8 * i, out);
-    }
+    eight_bytes(p.widths[i].0 as u64, p.prices[i].0)
 }
 
-// Fills a buffer with the bytes of a plan, every field of it.
-#[tactic(auto, using(crate::proofs::Bytes::all_in))]
-fn put(p: Plan, out: &mut [u8])
-    requires { length out.old ≡ record_length }
-    ensures { out.new ≡ bytes_of p }
+// The bytes of the six pairs. A loop over them was tried: it proves, and writing a plan then takes
+// 5 % more instructions. One `array::from_fn` was tried, and its proof did not close: nothing is
+// known of what a closure answers that answers an array.
+fn pairs_of(p: Plan) -> [[u8; 8]; Plan::MOST_STEPS]
+    ensures { result ≡ six (pair_bytes p) }
 {
-    put_two(p.start as u64, p.end as u64, 0, out);
-    out[8] = p.steps;
-    out[9] = p.word;
-    put_two(p.first as u64, p.second as u64, 10, out);
-    put_pairs(p, out);
+    [
+        pair_bytes(p, 0),
+        pair_bytes(p, 1),
+        pair_bytes(p, 2),
+        pair_bytes(p, 3),
+        pair_bytes(p, 4),
+        pair_bytes(p, 5),
+    ]
+}
+
+// The bytes of a plan, every field of it.
+#[tactic(auto, unfolding(crate::specs::Fields::bytes_of, crate::specs::Fields::eight_bytes))]
+fn bytes_of(p: Plan) -> [u8; LENGTH]
+    ensures { result ≡ bytes_of p }
+{
+    let mut bytes = [0; LENGTH];
+    bytes[..8].copy_from_slice(&eight_bytes(p.start as u64, p.end as u64));
+    bytes[8] = p.steps;
+    bytes[9] = p.word;
+    bytes[10..18].copy_from_slice(&eight_bytes(p.first as u64, p.second as u64));
+    bytes[18..].copy_from_slice(pairs_of(p).as_flattened());
+    bytes
 }
 
 // Writes a plan into a lent buffer: its read fields and zero elsewhere; or 26, then 2 to 7, and the
@@ -148,7 +165,7 @@ pub fn write(p: Plan, out: &mut [u8]) -> Result<(), Refusal>
 {
     need(out.len() == LENGTH, Refusal::BufferLength)?;
     p.vet()?;
-    put(p.tidy(), out);
+    out.copy_from_slice(&bytes_of(p.tidy()));
     Ok(())
 }
 
@@ -164,7 +181,8 @@ fn one_in_force(first: bool, second: bool) -> Result<Which, Refusal>
     }
 }
 
-// Which of two lent records is in force on a date.
+// Which of two lent records is in force on a date. Here and in the next two functions two lent slices
+// go in: the form that document 01 names for this query, with one of the two handed back.
 #[tactic(auto, unfolding(crate::specs::Choice::choice_of))]
 pub fn choose(first: &[u8], second: &[u8], date: u32) -> Result<Which, Refusal>
     ensures { result ≡ choice_of first.now second.now date }
@@ -185,7 +203,8 @@ pub fn part_in_force<'a>(first: &'a [u8], second: &'a [u8], date: u32) -> Result
     }
 }
 
-// The record in force on a date, an empty part where `choose` refuses.
+// The record in force on a date, an empty part where `choose` refuses; `part_in_force` tells the
+// refusal.
 pub fn in_force<'a>(first: &'a [u8], second: &'a [u8], date: u32) -> &'a [u8]
     ensures { (result ≡ handed (choice_of first.now second.now date) first.entry second.entry result)
         × (result.now ≡ part_of (choice_of first.now second.now date) first.now second.now) }

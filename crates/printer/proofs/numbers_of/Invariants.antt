@@ -1,7 +1,7 @@
--- After i turns the first i pairs stand behind the other numbers.
-use Rattle.std.proofs.Common.{◌≡◌, ◌++◌}
+-- After each turn the pairs so far stand behind the other numbers.
+use Rattle.std.proofs.Common.{◌≡◌, ◌++◌, length}
 use Rattle.printer.specs.Line.{head_of, pairs_from}
 use Rattle.printer.proofs.numbers_of.Given as goal
 
-abbrev pub invariant-loop-i : goal.invariant-loop-i
-invariant-loop-i l = l.numbers ≡ head_of l.p ++ pairs_from l.p l.i 0
+abbrev pub invariant-loop-width : goal.invariant-loop-width
+invariant-loop-width l = l.numbers.items ≡ head_of l.fn.p ++ pairs_from l.fn.p (length l.yielded) 0

@@ -8,7 +8,7 @@ pub numbers_of-requires : goal.numbers_of-requires
 numbers_of-requires c = (steps-range c.args.p c.requires.0).1
 
 pub put_numbers-requires : goal.put_numbers-requires
-put_numbers-requires c = rw c.as_slice.ensures (omega arith, omega arith)
+put_numbers-requires c = rw c.as_slice.ensures.value (omega arith, omega arith)
 
 pub returns : goal.returns
-returns c = within (rw (← c.numbers_of.ensures.value, c.as_slice.ensures)) (rw c.as_slice.ensures (omega arith)) c.put_numbers.ensures
+returns c = within (rw (← c.numbers_of.ensures.value, c.as_slice.ensures.value)) (rw c.as_slice.ensures.value (omega arith)) c.put_numbers.ensures
