@@ -7,6 +7,7 @@ use Rattle.units.specs.Money.{money}
 use Rattle.records.specs.declared.Record.{Record}
 use Rattle.records.specs.declared.Shelf.{Shelf}
 use Rattle.records.specs.declared.Shelf.TheVariants.{Day, Month}
+use Rattle.records.specs.declared.held.Rows.{Rows}
 use Rattle.records.specs.Records.{Held, records_of, shelf_limit}
 
 -- where the counts stand, and how many words there are
@@ -56,9 +57,12 @@ held_from from h = rows h (from + 1) (get_or h from 0)
 abbrev pub held_of : List ℕ → Held
 held_of h = record { days = held_from day_place h; months = held_from month_place h }
 
--- those on a shelf, and that there are no more than it has room for
+-- those on a shelf, as the code sees it too, and that there are no more than it has room for
 abbrev pub held_on : Shelf → List ℕ → List Record
 held_on s h = records_of s (held_of h)
+
+abbrev pub rows_of : Rows → List Record
+rows_of s = held_on s.shelf s.words.now
 
 abbrev pub CountFits : Shelf → List ℕ → Type 0
 CountFits s h = length (held_on s h) ≤ shelf_limit s

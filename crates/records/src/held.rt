@@ -1,18 +1,18 @@
 // The held day and month records as words that the caller lends: the count of days, three words for
 // each of 62 days, the count of months, three words for each of 120 months; the newest record first.
 // Words behind the records that are counted are no part of the state.
-ghost use Rattle.std.specs.Prelude.{◌≡◌, ◌&&◌, ◌∷◌, ◌+◌, ◌<◌, leb, length, get_or, pos};
+ghost use Rattle.std.specs.Prelude.{◌≡◌, ◌&&◌, ◌∷◌, ◌+◌, ◌<◌, leb, length, get_or};
 ghost use Rattle.std.proofs.lemmas.List.Edits.{sets};
-ghost use Rattle.units.specs.Money.{money, Small};
+ghost use Rattle.units.specs.Money.{money};
 ghost use Rattle.records.specs.declared.Shelf.TheVariants.{Day};
 ghost use Rattle.records.specs.Records.{no_record, shelf_limit};
 ghost use Rattle.records.specs.Bounds.{records_good, held_good, is_fresh_held};
 ghost use Rattle.records.specs.Queries.{fetched, HeavyDay};
 ghost use Rattle.records.specs.Turn.{opened};
-ghost use Rattle.records.specs.Words.{balance_of, balance_word, record_from, record_at, date_word, record_words, shelf_place, word_count, held_of, held_on, CountFits, no_words};
+ghost use Rattle.records.specs.Words.{balance_of, balance_word, record_from, record_at, date_word, record_words, shelf_place, word_count, held_of, held_on, rows_of, CountFits, no_words};
 ghost use Rattle.records.specs.Moves.{pushed, closed_words};
 
-use crate::{Periods, PlacedRecord, Record, Shelf, Tally};
+use crate::{Limits, Periods, PlacedRecord, Record, Shelf, Tally};
 use answer::Refusal;
 use units::{Charge, Hundredths, Millionths};
 
@@ -56,7 +56,7 @@ fn date_word(r: Record) -> u64
     u64::from(r.volume.0) * ABOVE_DATE + u64::from(r.date)
 }
 
-// The record of three words. No From does it: how words hold a record is this file's own.
+// The record of three words. No `From`: how words hold a record is private to this file.
 #[tactic(auto, unfolding(crate::specs::Words::record_from))]
 fn record_from(a: u64, b: u64, c: u64) -> Record
     ensures { result ≡ record_from a b c }
@@ -77,46 +77,53 @@ fn record_at(h: &Words, i: usize) -> Record
     record_from(h[i], h[i + 1], h[i + 2])
 }
 
-// How many records of a shelf are held.
-fn count(h: &Words, shelf: Shelf) -> usize
-    ensures { result ≡ length (held_on shelf h.now) }
-{
-    h[shelf.place()] as usize
+// One shelf of the words. A host lends them with any count in it, so `row` asks that the shelf has room.
+#[derive(Clone, Copy)]
+struct Rows<'a> {
+    words: &'a Words,
+    shelf: Shelf,
 }
 
-// Record k of a shelf that holds it, and no more than it has room for.
-fn row(h: &Words, shelf: Shelf, k: usize) -> Record
-    requires held { k < length (held_on shelf h.now) }
-    requires few { CountFits shelf h.now }
-    ensures { result ≡ get_or (held_on shelf h.now) k no_record }
-{
-    record_at(h, shelf.place() + 3 * k + 1)
+impl<'a> Rows<'a> {
+    fn new(words: &'a Words, shelf: Shelf) -> Rows<'a>
+        ensures words { result.words.now ≡ words.now }
+        ensures shelf { result.shelf ≡ shelf }
+    {
+        Rows { words, shelf }
+    }
+
+    // How many records it holds.
+    fn count(self) -> usize
+        ensures { result ≡ length (rows_of self.entry) }
+    {
+        self.words[self.shelf.place()] as usize
+    }
+
+    // Record k, where it is held, and they are no more than the shelf has room for.
+    fn row(self, k: usize) -> Record
+        requires held { k < length (rows_of self) }
+        requires few { CountFits self.shelf self.words.now }
+        ensures { result ≡ get_or (rows_of self.entry) k no_record }
+    {
+        record_at(self.words, self.shelf.place() + 3 * k + 1)
+    }
+
+    // Whether the records keep the bounds, and are no more than the shelf has room for.
+    fn is_good(self, limits: Limits) -> bool
+        ensures { result ≡ (leb (length (rows_of self.entry)) (shelf_limit self.entry.shelf) && records_good limits.top.0 limits.total.0 (rows_of self.entry)) }
+    {
+        let n = self.count();
+        let few = n <= self.shelf.limit();
+        few && (0..n).all(|k| self.row(k).is_good(limits))
+    }
 }
 
-// Whether the records of a shelf keep the bounds.
-fn rows_good(h: &Words, shelf: Shelf, top: Charge, total: Hundredths) -> bool
-    requires few { CountFits shelf h.now }
-    requires top_bound { Small (pos top.0) }
-    ensures { result ≡ records_good top.0 total.0 (held_on shelf h.now) }
-{
-    (0..count(h, shelf)).all(|k| row(h, shelf, k).is_good(top, total))
-}
-
-// The same, and whether they are no more than the shelf has room for.
-fn shelf_good(h: &Words, shelf: Shelf, top: Charge, total: Hundredths) -> bool
-    requires { Small (pos top.0) }
-    ensures { result ≡ (leb (length (held_on shelf h.now)) (shelf_limit shelf) && records_good top.0 total.0 (held_on shelf h.now)) }
-{
-    count(h, shelf) <= shelf.limit() && rows_good(h, shelf, top, total)
-}
-
-// Whether the held records keep the bounds, closing balances at most `top`.
+// Whether the held records keep the bounds.
 #[tactic(auto, unfolding(crate::specs::Bounds::held_good))]
-pub fn is_good(h: &Words, top: Charge, total: Hundredths) -> bool
-    requires { Small (pos top.0) }
-    ensures { result ≡ held_good top.0 total.0 (held_of h.now) }
+pub fn is_good(h: &Words, limits: Limits) -> bool
+    ensures { result ≡ held_good limits.top.0 limits.total.0 (held_of h.now) }
 {
-    shelf_good(h, Shelf::Day, top, total) && shelf_good(h, Shelf::Month, top, total)
+    Rows::new(h, Shelf::Day).is_good(limits) && Rows::new(h, Shelf::Month).is_good(limits)
 }
 
 // Whether no record is held.
@@ -124,7 +131,7 @@ pub fn is_good(h: &Words, top: Charge, total: Hundredths) -> bool
 pub fn is_fresh(h: &Words) -> bool
     ensures { result ≡ is_fresh_held (held_of h.now) }
 {
-    (count(h, Shelf::Day) == 0) & (count(h, Shelf::Month) == 0)
+    (Rows::new(h, Shelf::Day).count() == 0) & (Rows::new(h, Shelf::Month).count() == 0)
 }
 
 // A count and the words of a record, put at `from`.
@@ -143,27 +150,30 @@ fn push(h: &mut Words, shelf: Shelf, r: Record)
     ensures { h.new ≡ pushed (shelf_place shelf) (shelf_limit shelf) r h.old }
 {
     let from = shelf.place();
-    let n = count(h, shelf).min(shelf.limit() - 1);
+    let n = (h[from] as usize).min(shelf.limit() - 1);
     h.copy_within(from + 1..from + 1 + 3 * n, from + 4);
     put(h, from, n as u64 + 1, r);
 }
 
-// Record k of a shelf, newest first from 0.
+// Record k of a shelf, newest first from 0. The two make one question; a struct of them would be taken
+// apart at once.
 pub fn record(h: &Words, shelf: Shelf, k: usize) -> Result<Record, Refusal>
     requires { CountFits shelf h.now }
     ensures { result ≡ fetched (held_on shelf h.now) k }
 {
-    answer::need(k < count(h, shelf), Refusal::NotHeld)?;
-    Ok(row(h, shelf, k))
+    let rows = Rows::new(h, shelf);
+    answer::need(k < rows.count(), Refusal::NotHeld)?;
+    Ok(rows.row(k))
 }
 
-// A held day of at least the volume v, with its place.
+// A held day of at least the volume v, with its place, which the loop counts.
 pub fn heavy(h: &Words, v: Hundredths) -> Result<PlacedRecord, Refusal>
     requires { CountFits Day h.now }
     ensures { HeavyDay (held_on Day h.now) v.0 result }
 {
-    for place in 0..count(h, Shelf::Day) {
-        let held = row(h, Shelf::Day, place);
+    let days = Rows::new(h, Shelf::Day);
+    for place in 0..days.count() {
+        let held = days.row(place);
         if v <= held.volume {
             return Ok(PlacedRecord { place, held });
         }

@@ -5,7 +5,6 @@ use Rattle.std.proofs.lemmas.List.Edits.{sets, sets-eq}
 use lib.Seq.{paste, drop_at, length-take-le}
 use Rattle.records.specs.Words.{record_words}
 use Rattle.records.specs.Moves.{pushed}
-use Rattle.records.proofs.Rows.{shelf-long}
 use Rattle.records.proofs.held.push.Goals as goal
 
 moved : (h w : List ℕ) (from n : ℕ)
@@ -32,11 +31,9 @@ returns c =
     let from = c.place-from.result in
     let three : from + 1 + 3 * n - (from + 1) ≡ 3 * n = omega arith in
     rw (
-      ← shelf-long c.args.shelf h,
-      ← c.count.ensures,
+      ← c.place-from.ensures.place,
       ← c.limit.ensures.limit,
       ← c.min-n.ensures,
-      ← c.place-from.ensures.place,
       c.put.ensures,
       c.copy_within.ensures.after,
       three,
