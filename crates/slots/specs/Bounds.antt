@@ -32,12 +32,8 @@ pub record BothGood (w : World) (s : Slots) : Type 0 where
   pub one : slot_good w s.one ≡ true
   pub two : slot_good w s.two ≡ true
 
--- what the turn from one date to a later one may rely on: both slots good and apart, the slot in force on each of the two dates, and that
--- they are dates
+-- what the turn from one date to a later one may rely on: both slots apart, and the slot in force on each of the two dates
 pub record MayTurn (s : Slots) (was is : Force) : Type 0 where
-  pub good : BothGood real s
   pub apart : apart real s.one s.two was.date ≡ true
   pub old : was ≡ force_on real s was.date
   pub new : is ≡ force_on real s is.date
-  pub old_date : some_force real s was.date ≡ true → real.date was.date ≡ true
-  pub new_date : real.date is.date ≡ true

@@ -8,13 +8,15 @@ use answer::{Refusal, need};
 use plan::Plan;
 
 impl Slots {
-    // Refusals 11 and 12 of a load on the date, in their order.
+    // Refusals 11 and 12 of a load on the date, in their order. Slot and plan go on as they were read: a
+    // struct of the two would be taken apart in each function.
     #[tactic(auto, unfolding(crate::specs::Load::room_refusal))]
     pub fn vet(self, d: u32, slot: SlotName, plan: Plan) -> Result<(), Refusal>
         ensures { result ≡ room_refusal real self d slot plan }
     {
+        let other = slot.pick(self.two, self.one);
         need(!self.slot_at(slot).in_force(d), Refusal::InForce)?;
-        need(!self.other_at(slot).meets(plan, d), Refusal::Overlap)
+        need(!other.meets(plan, d), Refusal::Overlap)
     }
 
     // The plan put into the slot.
@@ -23,9 +25,10 @@ impl Slots {
         ensures { result ≡ loaded self slot plan }
     {
         let held = Slot { loaded: true, plan };
-        match slot {
-            SlotName::One => Slots { one: held, ..self },
-            SlotName::Two => Slots { two: held, ..self },
+        Slots {
+            one: slot.pick(held, self.one),
+            two: slot.pick(self.two, held),
+            ..self
         }
     }
 }

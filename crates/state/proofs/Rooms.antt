@@ -1,15 +1,15 @@
 -- What the bounds of a meter leave for the leaves of a call, before and after the day is turned.
 use mathlib.Core.Path.{◌≡◌, refl, ap, ◌∙◌}
-use mathlib.Core.Bool.{true, false, ◌||◌}
+use mathlib.Core.Bool.{true, false}
 use mathlib.Core.List.{List, []}
 use Prim.Native.Nat.{ℕ, ◌+◌, ◌^◌, ◌≤◌, ◌<◌}
 use native.Mathlib.Omega.{arith}
-use lib.Dec.{leb, ltb, eqb}
+use lib.Dec.{leb, ltb}
 use Rattle.units.specs.Money.{Small, highest_balance}
 use Rattle.std.specs.Prelude.{Ok}
 use Rattle.answer.specs.declared.Refusal.TheVariants.{Pulses, Total}
 use Rattle.answer.proofs.Tests.{cases, never, split, need-both}
-use borrow.Author.Tests.{le-ltb, leb-true, eq-eqb, ne_eqb, eqb-false}
+use borrow.Author.Tests.{le-ltb, leb-true}
 use Rattle.calendar.specs.declared.Stamp.{Stamp}
 use Rattle.calendar.specs.Date.{is_date}
 use Rattle.calendar.proofs.Stamps.{not-before-date}
@@ -157,13 +157,3 @@ low-serial m s = (account-room m.account m.volumes.total.0 s.account (total-low 
 
 pub small-amount : (m : State) (amount serial : ℕ) → Parts real m → recharge_refusal m.account amount serial ≡ Ok tt → amount ≤ 2 ^ 55
 small-amount m amount serial s h = recharge-small m.account m.volumes.total.0 amount serial s.account (total-low real m s) h
-
--- the station's two commands
-pub is-command : (k : ℕ) → k ≤ 1 → (eqb k 0 || eqb k 1) ≡ true
-is-command k h = cases (eqb k 0) (λ e. rw e) (λ e. rw (e, eq-eqb k 1 (one_left k h (eqb-false k 0 e))))
-  where
-    one_left : (k : ℕ) → k ≤ 1 → (k ≡ 0 → ⊥) → k ≡ 1
-    one_left k h n = omega arith
-
-pub no-command : (k : ℕ) → 1 < k → (eqb k 0 || eqb k 1) ≡ false
-no-command k h = rw (ne_eqb k 0 (λ e. omega arith), ne_eqb k 1 (λ e. omega arith))

@@ -7,8 +7,8 @@ ghost use Rattle.state.specs.Bounds.{is_fresh, volumes_good, bounded};
 
 use crate::{Registers, Volumes};
 use account::Account;
-use records::held;
 use records::held::Words;
+use records::{Limits, held};
 
 impl Volumes {
     #[tactic(auto, unfolding(crate::specs::Bounds::volumes_good))]
@@ -39,7 +39,11 @@ impl Registers {
         requires { some ≡ some_force real self.slots self.clock.date }
         ensures { result ≡ bounded real (state_of self words.now) }
     {
-        let kept = held::is_good(words, Account::TOP, self.volumes.total);
+        let limits = Limits {
+            top: Account::TOP,
+            total: self.volumes.total,
+        };
+        let kept = held::is_good(words, limits);
         if self.clock.date == 0 {
             return self.is_fresh(words);
         }
