@@ -17,7 +17,9 @@ use record::Which;
 use records::PlacedRecord;
 use units::{Shown, TenThousandths, VolumeSum};
 
-// A struct for each payload, and no generic one: an exported function takes and hands out none.
+// The replies are a struct for each payload, and no generic one: an exported function takes and hands
+// out none.
+
 // What a call answers: accepted with its event codes, or refused with the number and none.
 #[repr(C)]
 #[derive(Clone, Copy)]
@@ -62,7 +64,7 @@ pub struct PlanReply {
     pub plan: Plan,
 }
 
-// Which of two records is in force: 1 or 2.
+// Which of two records is in force: 1 or 2, a number as the C header has it.
 #[repr(C)]
 #[derive(Clone, Copy)]
 pub struct PartReply {

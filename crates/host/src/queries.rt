@@ -15,14 +15,14 @@ use units::{Hundredths, Millionths, Shown};
 pub extern "C" fn harpdapple_step(meter: &Meter) -> StepReply
     ensures { result ≡ step_reply_of (step_answer (state_in meter.now)) }
 {
-    StepReply::from(query::step((*meter).machine.registers, &(*meter).held))
+    StepReply::from(query::step(meter))
 }
 
 #[unsafe(no_mangle)]
 pub extern "C" fn harpdapple_display(meter: &Meter) -> DisplayReply
     ensures { result ≡ display_reply_of (display_answer (state_in meter.now)) }
 {
-    DisplayReply::from(query::display((*meter).machine.registers, &(*meter).held))
+    DisplayReply::from(query::display(meter))
 }
 
 // What the display shows of any balance.
@@ -37,10 +37,11 @@ pub extern "C" fn harpdapple_shown(balance: Millionths) -> Shown
 fn placed(meter: &Meter, shelf: Shelf, k: usize) -> Result<PlacedRecord, Refusal>
     ensures { result ≡ placed_at k (record_answer shelf (state_in meter.now) k) }
 {
-    let held = query::record((*meter).machine.registers, &(*meter).held, shelf, k)?;
+    let held = query::record(meter, shelf, k)?;
     Ok(PlacedRecord { place: k, held })
 }
 
+// C calls days and months each by a name.
 #[unsafe(no_mangle)]
 pub extern "C" fn harpdapple_day(meter: &Meter, k: usize) -> RecordReply
     ensures { result ≡ record_reply_of k (day_answer (state_in meter.now) k) }
@@ -59,8 +60,7 @@ pub extern "C" fn harpdapple_month(meter: &Meter, k: usize) -> RecordReply
 pub extern "C" fn harpdapple_heavy(meter: &Meter, volume: Hundredths) -> RecordReply
     ensures { HeavyReplied (state_in meter.now) volume.0 result }
 {
-    let found = query::heavy((*meter).machine.registers, &(*meter).held, volume);
-    RecordReply::from(found)
+    RecordReply::from(query::heavy(meter, volume))
 }
 
 // The sum of volumes over a host's list of day records.

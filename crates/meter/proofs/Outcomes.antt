@@ -1,8 +1,8 @@
 -- What a call answers, by its refusal: the laws with which the proofs of the calls end.
-use mathlib.Core.Path.{◌≡◌, refl, sym, ◌∙◌}
+use mathlib.Core.Path.{◌≡◌, refl, ◌∙◌}
 use mathlib.Core.List.{List}
 use Prim.Native.Nat.{ℕ}
-use Rattle.std.specs.Prelude.{⊤, Result, Ok, Err}
+use Rattle.std.specs.Prelude.{⊤, Result, Ok, Err, MatchResult}
 use Rattle.answer.specs.declared.Refusal.{Refusal}
 use Rattle.answer.specs.Answer.{next}
 use Rattle.account.proofs.Notes.{note-append}
@@ -12,13 +12,12 @@ use Rattle.state.specs.State.{State, state_with, alone, registers_of}
 use Rattle.state.specs.Turn.{turn, Turned}
 use Rattle.state.specs.Pulsed.{pulsed, pulse_codes}
 use Rattle.state.specs.Refusals.{stamp_refusal}
-use Rattle.state.proofs.Admitted.{Admitted, admitted}
 use Rattle.meter.specs.declared.Meter.{Meter}
 use Rattle.meter.specs.declared.Outcome.{Outcome}
 use Rattle.meter.specs.Call.{Call, pulses, recharge, load, alarms, command, key, tick, stamp_of}
 use Rattle.meter.specs.Refusals.{own_refusal, refusal_of}
 use Rattle.meter.specs.Effects.{effect_of, codes_of}
-use Rattle.meter.specs.Machine.{after, codes_after, left, state_in, outcome, Answers, effect_by}
+use Rattle.meter.specs.Machine.{after, codes_after, left, state_in, outcome, Answers, Ran, effect_by}
 
 -- the refusal of a call whose stamp is admitted is its own, in any world
 pub refusal-own : (w : World) (s : State) (c : Call) → stamp_refusal w s (stamp_of c) ≡ Ok tt → refusal_of w s c ≡ own_refusal w s c
@@ -61,19 +60,30 @@ module _ (m : Meter) (c : Call) where
       go (Ok t) h = cc
       go (Err i) h = cc
 
-  module _ {d : ℕ} (e : Ok d ≡ next (stamp_refusal real (state_in m) (stamp_of c)) (Ok (stamp_of c).date)) where
-    pub admits : Admitted (state_in m) (stamp_of c) d
-    admits = admitted (state_in m) (stamp_of c) d (sym e)
-
-    -- by a test of the call's own
+  -- admitted by its stamp
+  module _ (passed : stamp_refusal real (state_in m) (stamp_of c) ≡ Ok tt) where
+    -- refused by a test of the call's own
     pub denied : {n : Refusal} → own_refusal real (state_in m) c ≡ Err n → Answers m c (Err n) m.held
-    denied {n} h = refused n (refusal-own real (state_in m) c admits.passed ∙ h)
+    denied {n} h = refused n (refusal-own real (state_in m) c passed ∙ h)
 
     -- accepted: the effect on the turned registers, its codes noted behind those of the turn
-    pub accepts : (t : Stage) (r : Outcome) (words : List ℕ) → own_refusal real (state_in m) c ≡ Ok tt →
+    pub accepts : {t : Stage} {r : Outcome} {words : List ℕ} → own_refusal real (state_in m) c ≡ Ok tt →
         Turned m.machine.registers m.held (stamp_of c) t words → r ≡ effect_by t c → Answers m c (Ok r) words
     unfolding outcome left after codes_after
-    accepts t r words own q i =
-        let h : refusal_of real (state_in m) c ≡ Ok tt = refusal-own real (state_in m) c admits.passed ∙ own in
+    accepts {t} {r} {words} own q i =
+        let h : refusal_of real (state_in m) c ≡ Ok tt = refusal-own real (state_in m) c passed ∙ own in
         let s = turn real (state_in m) (stamp_of c) in
         rw (i, q.0, q.1, q.2, h, effect-alone s c, codes-alone s c, note-append)
+
+  -- by the course of the call, where its own test tells its own refusals, and its effect is that of the call
+  pub answered : {T : Type 0} (own : Result T Refusal → Type 0) (effect : Stage → T → Outcome → Type 0) (r : Result Outcome Refusal) {words : List ℕ} →
+      Ran m (stamp_of c) own effect r words → ((n : Refusal) → own (Err n) → own_refusal real (state_in m) c ≡ Err n) →
+      ((x : T) → own (Ok x) → own_refusal real (state_in m) c ≡ Ok tt) → ((x : T) (t : Stage) (o : Outcome) → own (Ok x) → effect t x o → o ≡ effect_by t c) →
+      Answers m c r words
+  unfolding refusal_of
+  answered own effect (Ok o) (x, t, p, e) h i j = accepts p.stamp (i x p.told) p.turned (j x t o p.told e)
+  answered own effect (Err n) b h i j = rw b.0 (refused n (go (stamp_refusal real (state_in m) (stamp_of c)) b.1))
+    where
+      go : (a : Result ⊤ Refusal) → MatchResult a (λ _. own (Err n)) (λ k. n ≡ k) → next a (own_refusal real (state_in m) c) ≡ Err n
+      go (Ok t) e = h n e
+      go (Err k) e = cc

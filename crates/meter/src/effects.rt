@@ -1,28 +1,28 @@
-// The effects of the calls but for pulses on registers whose day is turned, with their codes: the answers of accepted calls.
-ghost use Rattle.std.specs.Prelude.{◌≡◌, true, [], ◌∷◌, ◌≤◌, ◌^◌};
-ghost use Rattle.units.specs.Money.{Small};
-ghost use Rattle.account.specs.Codes.{note_all};
+// The effects on registers whose day is turned, with their codes: the answers of accepted calls, but for pulses (crate `state`) and
+// tick, which has none. `noted` serves the two that change the account; one function for all would be handed the new registers and
+// the codes, and only join them.
+ghost use Rattle.std.specs.Prelude.{◌≡◌, true, [], ◌∷◌};
+ghost use Rattle.account.specs.Codes.{event_code, note_all};
 ghost use Rattle.slots.specs.Load.{loaded};
-ghost use Rattle.state.specs.State.{alone, registers_of, with_slots, with_valve};
+ghost use Rattle.state.specs.State.{alone, registers_of, with_account, with_slots, with_valve};
 ghost use Rattle.account.specs.Valve.{valve_set, key_codes};
-ghost use Rattle.meter.specs.Call.{recharge, alarms, command};
+ghost use Rattle.meter.specs.Call.{command};
 ghost use Rattle.meter.specs.Machine.{accepted_of, effect_by};
 
-use crate::{Alarms, Command, Outcome, Recharge};
-use account::Event;
+use crate::{Command, Outcome};
+use account::{Account, Event};
 use plan::Plan;
 use slots::SlotName;
 use state::Stage;
 
-#[tactic(auto, unfolding(crate::specs::Effects::effect_of, crate::specs::Effects::codes_of, account::specs::Codes::note_all, state::specs::State::registers_of, state::specs::State::state_with))]
-pub(crate) fn recharged(t: Stage, p: Recharge) -> Outcome
-    requires small { Small t.registers.account.balance.0 }
-    requires amount_bound { p.amount.0 ≤ 2 ^ 55 }
-    ensures { result ≡ effect_by t (recharge p) }
+// Another account, and one more code.
+#[tactic(auto, unfolding(account::specs::Codes::note_all, state::specs::State::registers_of, state::specs::State::state_with))]
+pub(crate) fn noted(t: Stage, account: Account, event: Event) -> Outcome
+    ensures { result ≡ accepted_of (registers_of (with_account (alone t.registers) account)) (note_all t.codes (event_code event ∷ [])) }
 {
     let mut next = t;
-    next.registers.account = t.registers.account.recharged(p.amount, p.serial);
-    next.codes = t.codes.note(Event::Recharged);
+    next.registers.account = account;
+    next.codes = t.codes.note(event);
     Outcome::from(next)
 }
 
@@ -32,16 +32,6 @@ pub(crate) fn loaded(t: Stage, slot: SlotName, plan: Plan) -> Outcome
 {
     let mut next = t;
     next.registers.slots = t.registers.slots.loaded(slot, plan);
-    next.codes = t.codes.note(Event::Set);
-    Outcome::from(next)
-}
-
-#[tactic(auto, unfolding(crate::specs::Effects::effect_of, crate::specs::Effects::codes_of, account::specs::Codes::note_all, state::specs::State::registers_of, state::specs::State::state_with))]
-pub(crate) fn alarmed(t: Stage, p: Alarms) -> Outcome
-    ensures { result ≡ effect_by t (alarms p) }
-{
-    let mut next = t;
-    next.registers.account = t.registers.account.alarmed(p.one, p.two);
     next.codes = t.codes.note(Event::Set);
     Outcome::from(next)
 }

@@ -1,28 +1,10 @@
--- Refused by its stamp or by a number that is no command; else the day turns, and the command is done.
-use Rattle.std.proofs.Common.{sym, ◌∙◌}
-use Rattle.std.proofs.lemmas.Result.{err_from_is_err_and}
-use Rattle.state.specs.State.{state_with}
+use Rattle.std.proofs.Common.{rules}
 use Rattle.meter.specs.Call.{command}
 use Rattle.meter.specs.Refusals.{own_refusal}
 use Rattle.meter.specs.Machine.{meter_of}
-use Rattle.meter.proofs.Outcomes.{not-admitted, admits, denied, accepts}
+use Rattle.meter.proofs.Outcomes.{answered}
 use Rattle.meter.proofs.Machine.command.Goals as goal
-
-pub returns-in_default : goal.returns-in_default
-returns-in_default c = not-admitted (meter_of c.args.self c.args.words.now) (command c.args.p) (sym c.unwrap_err.ensures ∙ c.admit-admitted.ensures)
-
-pub returns-in_err-need : goal.returns-in_err-need
-unfolding own_refusal
-returns-in_err-need c =
-    let p = err_from_is_err_and c.from_residual.result c.from_residual.ensures.1 in rw (p.1, p.2)
-    (denied (meter_of c.args.self c.args.words.now) (command c.args.p) (sym c.in-Ok.is ∙ c.admit-admitted.ensures) (sym c.in_err-need.ensures))
-
-pub turn-t-requires : goal.turn-t-requires
-unfolding state_with
-turn-t-requires c =
-    let a = admits (meter_of c.args.self c.args.words.now) (command c.args.p) (sym c.in-Ok.is ∙ c.admit-admitted.ensures) in
-    record { bounds = a.bounds; good = a.stamp; its_date = a.date }
 
 pub returns : goal.returns
 unfolding own_refusal
-returns c = accepts (meter_of c.args.self c.args.words.now) (command c.args.p) (sym c.in-Ok.is ∙ c.admit-admitted.ensures) _ _ _ (sym c.in_ok-need.ensures) c.turn-t.ensures c.commanded.ensures
+returns c = answered (meter_of c.args.self c.args.words.now) (command c.args.p) _ _ _ c.run.ensures (λ n e. search rules) (λ x e. search rules) (λ x t o e i. search rules)

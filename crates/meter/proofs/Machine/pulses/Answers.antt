@@ -16,6 +16,7 @@ use Rattle.state.specs.State.{State, state_with, alone, registers_of, with_clock
 use Rattle.state.specs.Turn.{turn, turn_codes, turn_words, Turned}
 use Rattle.state.specs.Pulsed.{pulsed, pulse_codes}
 use Rattle.state.specs.Refusals.{stamp_refusal}
+use Rattle.state.proofs.Admitted.{admitted}
 use Rattle.state.proofs.Parts.{total-low}
 use Rattle.state.proofs.Rooms.{state, pulses-fit, turned-good, turned-clock, same-day, same_codes, same-words, alone-good, later-force, same-force}
 use Rattle.meter.specs.declared.Meter.{Meter}
@@ -23,7 +24,7 @@ use Rattle.meter.specs.Call.{pulses}
 use Rattle.meter.specs.Refusals.{own_refusal}
 use Rattle.meter.specs.Effects.{effect_of, codes_of}
 use Rattle.meter.specs.Machine.{meter_of, state_in, accepted_of}
-use Rattle.meter.proofs.Outcomes.{not-admitted, admits, denied, accepts}
+use Rattle.meter.proofs.Outcomes.{not-admitted, denied, accepts}
 use Rattle.meter.proofs.Machine.pulses.Goals as goal
 use Rattle.meter.proofs.Machine.pulses.Goals.{then-self-date, else-self-date}
 
@@ -67,18 +68,18 @@ returns-in_default c = not-admitted (meter_of c.args.self c.args.words.now) (pul
 
 pub vet-requires : goal.vet-requires
 unfolding state_with
-vet-requires c = total-low real _ (state _ (admits (meter_of c.args.self c.args.words.now) (pulses c.args.p) (sym c.in-Ok.is ∙ c.admit-admitted.ensures)).bounds)
+vet-requires c = total-low real _ (state _ (admitted (state_in (meter_of c.args.self c.args.words.now)) c.args.p.stamp _ (sym (sym c.in-Ok.is ∙ c.admit-admitted.ensures))).bounds)
 
 pub returns-in_err-vet : goal.returns-in_err-vet
 unfolding own_refusal state_with
 returns-in_err-vet c =
     let p = err_from_is_err_and c.from_residual.result c.from_residual.ensures.1 in rw (p.1, p.2)
-    (denied (meter_of c.args.self c.args.words.now) (pulses c.args.p) (sym c.in-Ok.is ∙ c.admit-admitted.ensures) (sym c.in_err-vet.ensures))
+    (denied (meter_of c.args.self c.args.words.now) (pulses c.args.p) (admitted (state_in (meter_of c.args.self c.args.words.now)) c.args.p.stamp _ (sym (sym c.in-Ok.is ∙ c.admit-admitted.ensures))).passed (sym c.in_err-vet.ensures))
 
 pub turn-t-requires : goal.turn-t-requires
 unfolding state_with
 turn-t-requires c =
-    let a = admits (meter_of c.args.self c.args.words.now) (pulses c.args.p) (sym c.in-Ok.is ∙ c.admit-admitted.ensures) in
+    let a = admitted (state_in (meter_of c.args.self c.args.words.now)) c.args.p.stamp _ (sym (sym c.in-Ok.is ∙ c.admit-admitted.ensures)) in
     record { bounds = a.bounds; good = a.stamp; its_date = a.date }
 
 pub pulsed-requires : goal.pulsed-requires
@@ -87,7 +88,7 @@ pulsed-requires c =
     let u : Meter = meter_of c.args.self c.args.words.now in
     let m : State = state_in u in
     let s : Stamp = c.args.p.stamp in
-    let a = admits u (pulses c.args.p) (sym c.in-Ok.is ∙ c.admit-admitted.ensures) in
+    let a = admitted m s _ (sym (sym c.in-Ok.is ∙ c.admit-admitted.ensures)) in
     let e : Met u s c.if-self-date.s c.if-self-date.words c.if-self-date.codes c.if-self-date.f = elim c.if-self-date.branch [
       | then-self-date w ↦ met-turned u s _ w.turn-t.ensures (w.force-f.ensures ∙ ap (force_on real c.args.self.registers.slots) a.date) w.s-is w.words-is w.codes-is w.f-is
       | else-self-date w ↦ met-same u s a.passed (omega (arith, w.if-self-date.false, a.date)) c.none-codes.ensures c.force-was.ensures w.s-is w.words-is w.codes-is w.f-is
@@ -105,12 +106,12 @@ returns c =
     let u : Meter = meter_of c.args.self c.args.words.now in
     let m : State = state_in u in
     let s : Stamp = c.args.p.stamp in
-    let a = admits u (pulses c.args.p) (sym c.in-Ok.is ∙ c.admit-admitted.ensures) in
+    let a = admitted m s _ (sym (sym c.in-Ok.is ∙ c.admit-admitted.ensures)) in
     let e : Met u s c.if-self-date.s c.if-self-date.words c.if-self-date.codes c.if-self-date.f = elim c.if-self-date.branch [
       | then-self-date w ↦ met-turned u s _ w.turn-t.ensures (w.force-f.ensures ∙ ap (force_on real c.args.self.registers.slots) a.date) w.s-is w.words-is w.codes-is w.f-is
       | else-self-date w ↦ met-same u s a.passed (omega (arith, w.if-self-date.false, a.date)) c.none-codes.ensures c.force-was.ensures w.s-is w.words-is w.codes-is w.f-is
     ] in
     let t : Stage = record { registers = registers_of (turn real m s); codes = note_all no_codes (turn_codes real m s) } in
-    accepts u (pulses c.args.p) (sym c.in-Ok.is ∙ c.admit-admitted.ensures) t _ _ (sym c.in_ok-vet.ensures) (refl, e.words, refl)
+    accepts u (pulses c.args.p) a.passed {t = t} (sym c.in_ok-vet.ensures) (refl, e.words, refl)
     (c.from.ensures ∙ rw (c.pulsed.ensures.registers, c.pulsed.ensures.codes, e.codes)
     (ap (λ (x : State). accepted_of (registers_of (pulsed real x c.args.p.count.0)) (note_all t.codes (pulse_codes real x c.args.p.count.0))) e.registers))
