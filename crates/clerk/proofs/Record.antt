@@ -13,12 +13,13 @@ use Rattle.words.specs.Words.{content, word_at, words_behind, has_gap}
 use Rattle.words.specs.Numbers.{are_numbers}
 use Rattle.words.specs.Hex.{is_hex}
 use Rattle.text.proofs.Digits.{cases}
+use Rattle.answer.specs.Answer.{need}
 use Rattle.script.specs.declared.forms.Form.{Form}
 use Rattle.script.specs.declared.Fault.{Fault}
 use Rattle.script.specs.declared.Fault.TheVariants.{WordCount, NotANumber, NotHex, Gap}
 use Rattle.script.specs.declared.Order.{Order}
 use Rattle.script.specs.Forms.{Line, entries, form_by, form_of}
-use Rattle.script.specs.Faults.{need, made_as, form_in}
+use Rattle.script.specs.Faults.{made_as, form_in}
 use Rattle.script.specs.Orders.{said_by, record_by, order_by, bytes_by, order_in, record_in, order_of, record_of}
 use Rattle.clerk.specs.Clerk.{size_of}
 

@@ -44,20 +44,18 @@ fn called(desk: Desk, order: Result<Order, Fault>, room: &[u8]) -> Played
     }
 }
 
-// The answer to a question on the meter.
+// The answer to a question on the meter. For the room that this and the two below ask, see
+// `place::LINE_ROOM`; a meter and a line's buffer meet here alone.
 #[tactic(auto, unfolding(crate::specs::Clerk::QuerySaid))]
 fn queried(m: &Meter, q: Query, out: &mut [u8]) -> usize
     requires { line_room ≤ length out.old }
     ensures { Answered (QuerySaid (state_in m.now) q) out.old result out.new }
 {
-    let registers = m.machine.registers;
     match q {
-        Query::Step => report::step_line(query::step(registers, &m.held), out),
-        Query::Display => report::display_line(query::display(registers, &m.held), out),
-        Query::Record(shelf, k) => {
-            report::record_line(query::record(registers, &m.held, shelf, k), out)
-        }
-        Query::Heavy(v) => report::heavy_line(query::heavy(registers, &m.held, v), out),
+        Query::Step => report::answer_line(query::step(m), out),
+        Query::Display => report::answer_line(query::display(m), out),
+        Query::Record(shelf, k) => report::answer_line(query::record(m, shelf, k), out),
+        Query::Heavy(v) => report::answer_line(query::heavy(m, v), out),
     }
 }
 
@@ -75,14 +73,15 @@ fn answered(
 {
     match order {
         Ok(Order::Nothing) => 0,
-        Ok(Order::Call(_, _)) => report::call_line(done, out),
+        Ok(Order::Call(_, _)) => report::answer_line(done, out),
         Ok(Order::Query(q)) => queried(m, q, out),
-        Ok(Order::Show) => showing::show(m.machine.registers, &m.held, out),
+        Ok(Order::Show) => showing::show(m, out),
         Err(fault) => report::error_line(number, fault, out),
     }
 }
 
-// Works a line: the desk after it, and its answer at the start of `out`.
+// Works a line: the desk after it, and its answer at the start of `out`. The line fits the room as in
+// `words::put_pairs`.
 pub fn work(desk: Desk, number: u64, line: &[u8], room: &mut [u8], out: &mut [u8]) -> Worked
     requires line_len_bound { length line.now ≤ 2 * length room.old }
     requires in_bounds { line_room ≤ length out.old }

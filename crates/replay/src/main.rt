@@ -6,6 +6,7 @@ ghost use Rattle.std.specs.Prelude.{◌≡◌, ◌≤◌, length, OnOk, IfOk};
 ghost use Rattle.replay.specs.Room.{capacity, HasRoom};
 
 use desk::Desk;
+use place::LINE_ROOM;
 use script::Fault;
 use std::io;
 use std::io::{Read, Write};
@@ -13,10 +14,7 @@ use std::io::{Read, Write};
 // The bytes of input, and of answers, that are held at once.
 const CAPACITY: usize = 65_536;
 
-// The most bytes of one answer.
-const LINE_ROOM: usize = 320;
-
-// The answers that wait to be written.
+// The answers that wait to be written. The memory is fixed; its unused end is lent to an answer.
 #[derive(Drop)]
 struct Answers {
     bytes: [u8; CAPACITY],
@@ -70,7 +68,8 @@ impl Player {
         }
     }
 
-    // Plays one line; the end of a line that was too long is passed over.
+    // Plays one line; the end of a line that was too long is passed over. A part of the input is a
+    // slice, whose type has no most length, so three functions ask that it is within the capacity.
     fn play_line(&mut self, line: &[u8])
         requires line_len_bound { length line.now ≤ capacity }
         requires room { HasRoom self.old.answers.used }
@@ -124,16 +123,16 @@ impl Player {
         0
     }
 
-    // The lines that a read completes, answered before the next; `have` bytes are there.
+    // The lines that a read completes, answered before the next. There is no heap for a reader of lines:
+    // the input is a lent array, of which the first `have` bytes are there.
     fn play_some(
         &mut self,
         sink: &mut impl Write,
-        input: &mut [u8],
+        input: &mut [u8; CAPACITY],
         have: usize,
     ) -> io::Result<usize>
-        requires input_len_bound { length input.old ≤ capacity }
-        requires have_in_bounds { have ≤ length input.old }
-        ensures { IfOk result (λ held. held ≤ length input.old) }
+        requires { have ≤ capacity }
+        ensures { IfOk result (λ held. held ≤ capacity) }
     {
         let from = self.play_lines(sink, &input[..have])?;
         lines::shift(input, from, have);

@@ -5,7 +5,7 @@
 ghost use Rattle.std.specs.Prelude.{◌≡◌, ℕ, List, ◌+◌, ◌≤◌, length};
 ghost use Rattle.text.specs.Written.{Written};
 ghost use Rattle.place.specs.Place.{HasRoom, Placed, line_room};
-ghost use Rattle.report.specs.Lines.{ok_line, step_text, display_text, record_text, heavy_text, answer_line, call_line, step_line, display_line, record_line, heavy_line};
+ghost use Rattle.report.specs.Lines.{ok_line, step_text, display_text, record_text, heavy_text, answer_line};
 ghost use Rattle.report.specs.Errors.{fault_text, error_line};
 ghost use Rattle.report.specs.Closing.{agrees, closing_line};
 
@@ -18,7 +18,7 @@ use script::Fault;
 use units::{Charge, Millionths, Shown};
 
 // What a call or a query answers, as a line.
-trait Line: Copy {
+pub trait Line: Copy {
     ghost text: { Self → List ℕ };
 
     fn put(self, page: &mut Page<'_>)
@@ -84,68 +84,21 @@ impl Line for PlacedRecord {
     }
 }
 
-// An answer: what was answered, or the number of the refusal.
-impl<T: Line> Line for Result<T, Refusal> {
-    ghost text = { answer_line T.text };
-
-    fn put(self, page: &mut Page<'_>) {
-        match self {
-            Ok(value) => value.put(page),
-            Err(refusal) => {
-                page.word(b"refused ");
-                page.number(Value::Whole(u64::from(u8::from(refusal))), b'\n');
-            }
-        }
-    }
-}
-
-fn put_line<L: Line>(line: L, out: &mut [u8]) -> usize
+// The line of an answer: what was answered, or the number of the refusal. For the room that it and the
+// two below ask, see `place::LINE_ROOM`.
+pub fn answer_line<T: Line>(answer: Result<T, Refusal>, out: &mut [u8]) -> usize
     requires { line_room ≤ length out.old }
-    ensures { Written (L.text line) line_room out.old result out.new }
+    ensures { Written (answer_line T.text answer) line_room out.old result out.new }
 {
     let mut page = Page::new(out);
-    line.put(&mut page);
+    match answer {
+        Ok(value) => value.put(&mut page),
+        Err(refusal) => {
+            page.word(b"refused ");
+            page.number(Value::Whole(u64::from(u8::from(refusal))), b'\n');
+        }
+    }
     page.end()
-}
-
-// The line of a call.
-pub fn call_line(done: Result<Codes, Refusal>, out: &mut [u8]) -> usize
-    requires { line_room ≤ length out.old }
-    ensures { Written (call_line done) line_room out.old result out.new }
-{
-    put_line(done, out)
-}
-
-// The line of the step query.
-pub fn step_line(step: Result<StepPrice, Refusal>, out: &mut [u8]) -> usize
-    requires { line_room ≤ length out.old }
-    ensures { Written (step_line step) line_room out.old result out.new }
-{
-    put_line(step, out)
-}
-
-// The line of the display query.
-pub fn display_line(shown: Result<Shown, Refusal>, out: &mut [u8]) -> usize
-    requires { line_room ≤ length out.old }
-    ensures { Written (display_line shown) line_room out.old result out.new }
-{
-    put_line(shown, out)
-}
-
-// The line of a day or month query.
-pub fn record_line(fetched: Result<Record, Refusal>, out: &mut [u8]) -> usize
-    requires { line_room ≤ length out.old }
-    ensures { Written (record_line fetched) line_room out.old result out.new }
-{
-    put_line(fetched, out)
-}
-
-// The line of the heavy-day query.
-pub fn heavy_line(heavy: Result<PlacedRecord, Refusal>, out: &mut [u8]) -> usize
-    requires { line_room ≤ length out.old }
-    ensures { Written (heavy_line heavy) line_room out.old result out.new }
-{
-    put_line(heavy, out)
 }
 
 // What is wrong with a line, in words.

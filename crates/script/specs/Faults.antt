@@ -1,6 +1,7 @@
 -- What is wrong with a line: the first of the faults of a content, whose texts are in report/specs/Errors.antt. The last fault, a line longer
 -- than the program's buffer, is found where lines are read.
-use Rattle.std.specs.Prelude.{Bool, cond, not, ◌||◌, List, ℕ, eqb, leb, Option, Some, None, Result, Ok, Err}
+use Rattle.std.specs.Prelude.{not, ◌||◌, List, ℕ, eqb, leb, Option, Some, None, Result, Ok, Err}
+use Rattle.answer.specs.Answer.{need}
 use Rattle.words.specs.Words.{word_at, words_behind, has_gap}
 use Rattle.words.specs.Numbers.{are_numbers}
 use Rattle.words.specs.Hex.{is_hex}
@@ -8,10 +9,6 @@ use Rattle.script.specs.declared.forms.Form.{Form}
 use Rattle.script.specs.declared.Fault.{Fault}
 use Rattle.script.specs.declared.Fault.TheVariants.{UnknownWord, WordCount, NotANumber, NotHex, Gap}
 use Rattle.script.specs.Forms.{form_of}
-
--- a test that must hold, and the fault where it does not
-abbrev pub need : {T : Type 0} → Bool → Fault → Result T Fault → Result T Fault
-need t n rest = cond t rest (Err n)
 
 -- a form where the first word is known, and what else a content s must be that is to be made so
 abbrev pub made_as : Option Form → List ℕ → Result Form Fault

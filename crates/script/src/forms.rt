@@ -29,7 +29,8 @@ pub struct Form {
     pub numbers: usize,
 }
 
-// A word, what it asks for, how many words follow it, and how many of these are numbers.
+// A word, what it asks for, how many words follow it, and how many of these are numbers. A tuple beside
+// `Form`: thirteen structs would be longer to read.
 type Row = (&'static [u8], Kind, usize, usize);
 
 const TABLE: [Row; 13] = [

@@ -3,11 +3,12 @@
 
 mod forms; // forms.rt: the table of the words
 
-ghost use Rattle.std.specs.Prelude.{◌≡◌, ◌*◌, ◌≤◌, length, Ok};
+ghost use Rattle.std.specs.Prelude.{◌≡◌, ◌*◌, ◌≤◌, length};
 ghost use Rattle.text.specs.Decimal.{starting_with};
-ghost use Rattle.script.specs.Faults.{need, form_in};
+ghost use Rattle.script.specs.Faults.{form_in};
 ghost use Rattle.script.specs.Orders.{stamp_in, said_by, record_by, order_of, record_of};
 
+use answer::need;
 use calendar::Stamp;
 use forms::{Form, Kind, form_of};
 use meter::{Alarms, Call, Command, Key, Load, Pulses, Recharge, Tick};
@@ -35,21 +36,16 @@ pub enum Query {
     Heavy(Hundredths),
 }
 
-// What a line says. The record of a plan stands at the start of a lent buffer; its length is beside
-// the call, 0 for any other.
+// What a line says: one of four things, none of them an error. The record of a plan stands at the start
+// of a lent buffer; its length is beside the call, 0 for any other. `Call(Call, &[u8])` was tried, and
+// what `parse` promises could not be stated: no definition makes a reference, and a buffer that is
+// handed out in part has no value after the call.
 #[derive(Clone, Copy)]
 pub enum Order {
     Nothing,
     Call(Call, usize),
     Query(Query),
     Show,
-}
-
-// A test that must hold, and the fault where it does not; the same in crate answer is over refusals.
-fn need(holds: bool, fault: Fault) -> Result<(), Fault>
-    ensures { result ≡ need holds fault (Ok tt) }
-{
-    if holds { Ok(()) } else { Err(fault) }
 }
 
 // How a content is made, or its first fault.
@@ -117,7 +113,8 @@ fn said(kind: Kind, s: &[u8]) -> Order
     Order::Call(call, 0)
 }
 
-// The record of a plan, put at the start of the buffer.
+// The record of a plan, put at the start of the buffer. Its room is asked for as in
+// `words::put_pairs`.
 #[tactic(auto, unfolding(crate::specs::Orders::record_by))]
 fn put_record(f: Form, s: &[u8], room: &mut [u8])
     requires { length s.now ≤ 2 * length room.old }
@@ -128,7 +125,7 @@ fn put_record(f: Form, s: &[u8], room: &mut [u8])
     }
 }
 
-// WHAT A LINE SAYS; the record of a plan stands then at the start of the buffer.
+// What a line says; a plan's record then stands at the start of the buffer.
 pub fn parse(line: &[u8], room: &mut [u8]) -> Result<Order, Fault>
     requires { length line.now ≤ 2 * length room.old }
     ensures { (result ≡ order_of line.now) × (room.new ≡ starting_with (record_of line.now) room.old) }

@@ -5,19 +5,18 @@
 ghost use Rattle.std.specs.Prelude.{◌≡◌, ◌+◌, ◌≤◌, length, Err};
 ghost use Rattle.text.specs.Written.{Written};
 ghost use Rattle.place.specs.Place.{HasRoom, Placed, line_room};
-ghost use Rattle.state.specs.State.{state_of};
+ghost use Rattle.meter.specs.Machine.{state_in};
 ghost use Rattle.showing.specs.Show.{balance_shown, usage_shown, step_shown, valve_shown, day_shown, show_lines};
 
 use account::Valve;
 use answer::Refusal;
+use meter::Meter;
 use place::{Page, Value};
 use plan::StepPrice;
 use records::Tally;
-use records::held::Words;
-use state::Registers;
 use units::{Charge, Hundredths, Millionths, Signed};
 
-// The lines that show a meter: the balance.
+// The balance.
 fn put_balance(b: Millionths, page: &mut Page<'_>)
     requires { HasRoom 42 page.old }
     ensures { Placed (balance_shown b.0) 42 page.old page.new }
@@ -90,15 +89,16 @@ fn put_day(date: u32, t: Tally, page: &mut Page<'_>)
     page.word(b" yuan\n");
 }
 
-// A meter in plain words and units.
-pub fn show(r: Registers, words: &Words, out: &mut [u8]) -> usize
+// A meter in plain words and units. For the room that it asks, see `place::LINE_ROOM`.
+pub fn show(m: &Meter, out: &mut [u8]) -> usize
     requires { line_room ≤ length out.old }
-    ensures { Written (show_lines (state_of r words.now)) line_room out.old result out.new }
+    ensures { Written (show_lines (state_in m.now)) line_room out.old result out.new }
 {
+    let r = m.machine.registers;
     let mut page = Page::new(out);
     put_balance(r.account.balance, &mut page);
     put_usage(r.slots.usage, &mut page);
-    put_step(query::step(r, words), &mut page);
+    put_step(query::step(m), &mut page);
     put_valve(r.valve, &mut page);
     put_day(r.clock.date, r.periods.day, &mut page);
     page.end()

@@ -4,7 +4,8 @@ use crate::setup::{PLAN_A, TABLE_C10, altered};
 use answer::Refusal;
 use std::io;
 
-// Whether the part that is handed back is this one; an empty one is a refusal.
+// Whether the part that is handed back is this one; an empty one is a refusal. Two records and a date, as
+// `record::choose` has them.
 fn hands(first: &[u8], second: &[u8], date: u32, part: &[u8]) -> bool {
     record::in_force(first, second, date) == part
 }

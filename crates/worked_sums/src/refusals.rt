@@ -103,14 +103,13 @@ fn settings(c: &mut Count) -> io::Result<()> {
 // The questions on a fresh meter.
 fn queries(c: &mut Count) -> io::Result<()> {
     let m = Fresh.meter();
-    let r = m.machine.registers;
-    let step = query::step(r, &m.held).err();
+    let step = query::step(&m).err();
     c.say_refused(step, Refusal::NoPlan, "the step with no plan")?;
-    let day = query::record(r, &m.held, Shelf::Day, 0).err();
+    let day = query::record(&m, Shelf::Day, 0).err();
     c.say_refused(day, Refusal::NotHeld, "a day record that is not held")?;
-    let month = query::record(r, &m.held, Shelf::Month, 0).err();
+    let month = query::record(&m, Shelf::Month, 0).err();
     c.say_refused(month, Refusal::NotHeld, "a month record that is not held")?;
-    let heavy = query::heavy(r, &m.held, Hundredths(0)).err();
+    let heavy = query::heavy(&m, Hundredths(0)).err();
     c.say_refused(
         heavy,
         Refusal::NoHeavyDay,

@@ -11,7 +11,7 @@ use records::Shelf;
 use std::io;
 use units::{Charge, Hundredths, Shown, TenThousandths};
 
-// Each check by its name.
+// Each check by its name, which has the refusal's number in it, where there is one.
 fn say_all(c: &mut Count, checks: &[Check<'_>]) -> io::Result<()> {
     for check in checks {
         c.say(check.holds(), check.name)?;
@@ -53,7 +53,7 @@ fn overlap(c: &mut Count) -> io::Result<()> {
 fn step(start: Start, number: u8, price: u64) -> bool {
     let m = start.meter();
     let price = TenThousandths(price);
-    query::step(m.machine.registers, &m.held) == Ok(StepPrice { number, price })
+    query::step(&m) == Ok(StepPrice { number, price })
 }
 
 // Gas in the second at midnight is February's alone, and February begins in step 1.
@@ -71,7 +71,7 @@ fn midnight(c: &mut Count) -> io::Result<()> {
 // Whether month record k on 20200301 has this date, volume and charge.
 fn holds(k: usize, date: u32, volume: u32, charge: u64) -> bool {
     let m = March.meter();
-    query::record(m.machine.registers, &m.held, Shelf::Month, k).is_ok_and(|r| {
+    query::record(&m, Shelf::Month, k).is_ok_and(|r| {
         r.date == date && r.volume == Hundredths(volume) && r.charge == Charge(charge)
     })
 }
@@ -86,7 +86,7 @@ fn months(c: &mut Count) -> io::Result<()> {
 // Whether the display shows this many ten-thousandths of a yuan for a balance.
 fn shows(balance: i64, n: i64) -> bool {
     let m = with_balance(balance);
-    query::display(m.machine.registers, &m.held) == Ok(Shown(n))
+    query::display(&m) == Ok(Shown(n))
 }
 
 fn displays(c: &mut Count) -> io::Result<()> {

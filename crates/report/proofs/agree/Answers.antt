@@ -1,5 +1,5 @@
 -- The difference of two numbers of 64 bits fits 128.
-use Rattle.std.proofs.Common.{arith, rules, ap, ◌∙◌}
+use Rattle.std.proofs.Common.{arith, rules}
 use Rattle.report.specs.Closing.{agrees}
 use Rattle.report.proofs.Agreeing.{difference}
 use Rattle.report.proofs.agree.Goals as goal
