@@ -4,7 +4,7 @@
  * The library keeps nothing. The host keeps one struct for each meter, lends it to the calls, and may copy it with
  * `=` or memcpy. There is no allocation, no lock and no global: two threads may work on two meters at once, not on one.
  *
- * What it takes: 4,680 bytes for a meter, at most 3 KB of stack for a call and 1 KB for a query, some 32 KB of code.
+ * What it takes: 4,680 bytes for a meter, at most 3 KB of stack for a call and 1 KB for a query, some 36 KB of code.
  *
  * Every function answers any argument and any meter. An answer has `accepted`; where it is false, `refusal` holds one
  * of the HARPDAPPLE_REFUSED numbers, every other field of the answer is 0, and the meter and all lent bytes stand as
