@@ -1,10 +1,12 @@
 #!/bin/sh
 # Tests what is shipped, as a host meets it. The library and the journal that replay plays need the kit alone; the rest
 # needs gcc, g++, rustc, make, pkg-config and python3, and is left out where HARPDAPPLE_SKIP_LIBRARY_TESTS=1.
-# Run from the repository's root, after `rt ci` or `rt check`. A line for each test; the last is `library: N passed, M failed`.
+# Run from the repository's root. A line for each test; the last is `library: N passed, M failed`. With the word `proved`, right after `rt ci`,
+# it takes the libraries and programs as that run proved and built them.
 set -u
 
 library=crates/host/out/libhost.a
+is_proved=${1:-}
 out=target/tests
 passed=0
 failed=0
@@ -23,10 +25,19 @@ try() {
     fi
 }
 
-builds() { (cd crates/host && rt lib) && [ -f "$library" ]; }
+builds() {
+    if [ "$is_proved" != proved ]; then
+        (cd crates/host && rt lib) || return
+    elif ! [ -f "$library" ]; then
+        tests/proved.py host || return
+    fi
+    [ -f "$library" ]
+}
 
-# builds a program and runs it on an empty input
-made() { (cd "crates/$1" && rt run </dev/null) && [ -x "crates/$1/out/$1" ]; }
+# builds a program, if `rt ci` has not
+made() {
+    [ "$is_proved" = proved ] && [ -x "crates/$1/out/$1" ] || (cd "crates/$1" && rt run </dev/null) && [ -x "crates/$1/out/$1" ]
+}
 
 # $1 is what is expected; the rest is run, with standard input as it is
 prints() {
@@ -73,7 +84,7 @@ if ! [ -f include/harpdapple.h ] || ! mkdir -p "$out"; then
     echo "library: FAILED: run from the repository's root"
     exit 1
 fi
-try "rt lib in crates/host writes $library" builds
+try "crates/host becomes $library" builds
 try "replay prints what is expected for the midnight of the ticket" plays
 if [ "${HARPDAPPLE_SKIP_LIBRARY_TESTS:-0}" = 1 ]; then
     echo "library: the tests with gcc, g++, rustc, make, pkg-config and python3 are left out, as HARPDAPPLE_SKIP_LIBRARY_TESTS says"

@@ -1,15 +1,16 @@
 #!/usr/bin/env python3
 """Tries the wrong answers under crates/*/wrong: edits in the form of rt's must-fail ones, each of which the prover must refuse.
 
-  tests/wrong.py [--list] [CRATE..]    in the repository
+  tests/wrong.py [--list] [--proved] [CRATE..]    in the repository
 
 `rt must-fail` checks the whole crate for each edit. Here edits share a check where it tells them apart. A function is proved by its own
 contract and those of what it calls, whose bodies it does not see; so an edit of a body, or of the contract of a function that nothing else
 in its crate names, can break the proof of its own function alone. An edit of a definition in specs/ can break what rests on that
 definition (tests/rests.py). An edit counts if the check shows an error in a proof that it may break and no other edit of its run may. Where
 a shared run shows none for it, an error where none of its edits reaches, or one that shows nothing, the edit is tried again by itself. So
-is each other edit, as of a constant. A run begins with what one check of the crate as it stands has proved, and that check with what rt
-kept: the prover takes from there what is as it was. The libraries below are built first, by `rt lib`.
+is each other edit, as of a constant. A run checks the functions that its edits are for, with what those call, or the whole crate where an
+edit is of what no function names. The runs of a crate follow one another, each over what the one before kept: the prover takes from there
+what is as it was. The libraries below are built first, by `rt lib`, or with --proved are those that `rt ci` has just proved.
 
 A refusal shows something only if it stops at a fact. An edit fails if its first error is in specs/ or in a contract, or is a name that
 is out of scope. The edits under must-fail/ are held to the same.
@@ -19,8 +20,8 @@ prover must leave unproved. Every public contract of a library has a wrong answe
 without edits are named in PROGRAMS (tests/edits.py). --list counts them and the runs that they take, and tries nothing. A crate needs as
 many runs as there are edits of one of its functions or definitions, beside those that are tried by themselves.
 
-As many runs go on at a time as there are processors (or WRONG_JOBS). target/wrong/CRATE/ has the logs, target/wrong/tally how many
-passed and failed. The last line counts them.
+The runs of as many crates go on at a time as there are processors (or WRONG_JOBS). target/wrong/CRATE/ has the logs, target/wrong/tally how
+many passed and failed. The last line counts them.
 """
 import concurrent.futures
 import os
@@ -31,7 +32,8 @@ import sys
 import time
 
 sys.dont_write_bytecode = True
-from edits import Crate, LISTED, ROOT, below, edited, lacking
+from edits import Crate, Function, LISTED, ROOT, below, edited, lacking
+from proved import KIT, from_ci, words
 from rests import Rests
 
 ALL = os.path.join(ROOT, 'target', 'wrong')
@@ -42,27 +44,10 @@ ADMITTED = re.compile('was not admitted|because it was not|was rejected, was not
 PLACED = re.compile(r'(note: )?(?:\./)?((?:src|specs|proofs)/[^\s:]+):(\d+):\d+:(.*)')
 
 
-def kit():
-    """The folder of the kit, where its first page lies."""
-    page = subprocess.run(['rt', 'doc'], capture_output=True, text=True, check=True).stdout.split()[0]
-    return os.path.dirname(page)
-
-
-def checked(crate, room, kept):
-    """Checks the crate as it stands in `room`, over the modules in `kept`; the status and what the prover said."""
-    name, words = crate.name, ['--crate-name', crate.name, crate.root]
-    for dep in ['std', *LISTED[name].of_kit]:
-        words += ['--extern', f'{dep}={KIT}/rlibs/{dep}.rlib']
-    words += ['-L', f'dependency={KIT}/rlibs']
-    for dep in LISTED[name].uses:
-        words += ['--extern', f'{dep}={ROOT}/crates/{dep}/out/rlib/{dep}.rlib']
-    for dep in below(name):
-        words += ['-L', f'dependency={ROOT}/crates/{dep}/out/rlib']
-    words += ['--antt-project', f'{KIT}/rattle/logic/antt-project.json', '--logic-built', f'{KIT}/logic_built', '--incremental', kept]
-    words += ['--jobs', '1', '--links', f'{name}='] + (['--crate-type', 'staticlib'] if LISTED[name].is_static else [])
-    if LISTED[name].is_static or crate.root.endswith('main.rt'):
-        words += [word for dep in below(name) for word in ('--links', f'{dep}=')]
-    done = subprocess.run([f'{KIT}/bin/rattle', 'check', *words], cwd=room, capture_output=True, text=True, errors='replace')
+def checked(crate, room, kept, only):
+    """Checks the crate as it stands in `room`, or some functions of it, over the modules in `kept`; the status and what the prover said."""
+    more = ['--incremental', kept, '--jobs', '1', *(word for name in only for word in ('--only', crate.name + '::' + name))]
+    done = subprocess.run([f'{KIT}/bin/rattle', 'check', *words(crate.name), *more], cwd=room, capture_output=True, text=True, errors='replace')
     return done.returncode, done.stdout + done.stderr
 
 
@@ -80,8 +65,10 @@ def kept_by_link(one, other):
     return os.link(one, other) if one.endswith('.oantt') else shutil.copy2(one, other)
 
 
-def built(crates):
+def built(crates, is_proved):
     """Builds what the crates stand on, lowest first; the name of a library that is not proved, or None."""
+    if is_proved and from_ci([crate.name for crate in crates]):
+        return None
     for name in dict.fromkeys(name for crate in crates for name in below(crate.name)):
         done = subprocess.run(['rt', 'lib'], cwd=os.path.join(ROOT, 'crates', name), capture_output=True, text=True, errors='replace')
         if done.returncode:
@@ -90,23 +77,10 @@ def built(crates):
     return None
 
 
-def seed(crate):
-    """Proves the crate as it stands into the folder that its runs begin with; whether it is proved."""
-    base, earlier = os.path.join(ALL, crate.name), os.path.join(ROOT, 'crates', crate.name, 'out', 'incremental')
-    if os.path.isdir(earlier):  # what `rt` proved of it: the prover takes what is as it was, by its checksum
-        shutil.copytree(earlier, os.path.join(base, 'seed'), copy_function=kept_by_link)
-    copied(crate, {}, os.path.join(base, 'room'))
-    status, said = checked(crate, os.path.join(base, 'room'), os.path.join(base, 'seed'))
-    shutil.rmtree(os.path.join(base, 'room'))
-    with open(os.path.join(base, 'seed.log'), 'w', encoding='utf-8') as out:
-        out.write(said)
-    return status == 0
-
-
 def runs_of(crate):
     """The edits of a crate, gathered into runs."""
     alone, shared = [], []
-    for edit in crate.edits['must-fail'] + crate.edits['wrong']:
+    for edit in sorted(crate.edits['must-fail'] + crate.edits['wrong'], key=lambda edit: not edit.function):
         if edit.whole or not (edit.function or edit.blocks) or edited([edit]) is None:
             alone.append([edit])
             continue
@@ -168,7 +142,7 @@ def verdict(edit, log, run):
     errors = errors_in(log)
     if len(run) > 1:
         errors = own_errors(edit, run, errors)
-    if not re.search(r'^logic=not-proved', log, re.M) or not errors:
+    if not re.search(r'^(logic=not-proved|only=\d+ proved=\d+$)', log, re.M) or not errors:
         return 'NOT REFUSED by the prover', ''
     place, row, said = errors[0]
     if shows_nothing(place, said):
@@ -176,6 +150,17 @@ def verdict(edit, log, run):
     proved = set(re.findall(r'^fn %s::(\S+): proved' % edit.crate.name, log, re.M))
     stray = [function.name for function in edit.stands if function.name in proved]
     return ('SHOWS NOTHING of %s, which is still proved' % ' '.join(stray) if stray else None), '%s:%d' % (place, row)
+
+
+def asked(run):
+    """The functions that a run checks: those that its edits are for, and those that name a definition that one changes. None of them is the whole crate."""
+    found = []
+    for edit in run:
+        shows = [it for it in edit.crate.rests.shows(edit) if isinstance(it, Function)] if edit.blocks else []
+        if not edit.function and not (edit.others or shows and len(run) > 1):
+            return []
+        found += [*edit.stands, *([] if edit.others else shows)]
+    return sorted({function.name for function in found})
 
 
 def tried(run, number):
@@ -188,8 +173,8 @@ def tried(run, number):
     base = os.path.join(ALL, crate.name)
     room = os.path.join(base, 'room%d' % number)
     copied(crate, texts, room)
-    shutil.copytree(os.path.join(base, 'seed'), os.path.join(room, 'kept'), copy_function=kept_by_link)
-    status, log = checked(crate, room, os.path.join(room, 'kept'))
+    only = asked(run)
+    status, log = checked(crate, room, os.path.join(base, 'kept'), only)
     shutil.rmtree(room)
     where = os.path.join(base, run[0].label + ('+%d.log' % (len(run) - 1) if len(run) > 1 else '.log'))
     with open(where, 'w', encoding='utf-8') as out:
@@ -208,46 +193,58 @@ def tried(run, number):
     return lines
 
 
-def main(words):
-    chosen = [word for word in words if not word.startswith('--')] or list(LISTED)
+def stands(crate, base):
+    """Whether the crate is proved without an edit."""
+    room = os.path.join(base, 'room')
+    copied(crate, {}, room)
+    status, said = checked(crate, room, os.path.join(base, 'kept'), [])
+    shutil.rmtree(room)
+    with open(os.path.join(base, 'unedited.log'), 'w', encoding='utf-8') as out:
+        out.write(said)
+    return status == 0
+
+
+def all_of(crate, is_proved):
+    """Makes a crate's runs one after the other; how many edits were refused, and how many runs there were."""
+    base, earlier = os.path.join(ALL, crate.name), os.path.join(ROOT, 'crates', crate.name, 'out', 'incremental')
+    os.makedirs(base)
+    if os.path.isdir(earlier):  # what `rt` proved of it: the prover takes what is as it was, by its checksum
+        shutil.copytree(earlier, os.path.join(base, 'kept'), copy_function=kept_by_link)
+    refused, runs = 0, runs_of(crate)
+    if not is_proved and not stands(crate, base):
+        print('wrong %s: NOT TRIED: the crate is not proved as it stands (%s)' % (crate.name, os.path.relpath(os.path.join(base, 'unedited.log'), ROOT)), flush=True)
+        return 0, 0
+    for number, run in enumerate(runs):
+        for line in tried(run, number):
+            refused += 'refused, as it must be' in line
+            print(line, flush=True)
+    shutil.rmtree(os.path.join(base, 'kept'), ignore_errors=True)
+    return refused, len(runs)
+
+
+def main(given):
+    chosen = [word for word in given if not word.startswith('--')] or list(LISTED)
     crates = [Crate(name) for name in chosen]
     for crate in crates:
         crate.rests = Rests(crate)
     amiss = [line for crate in crates for line in lacking(crate)]
     print('\n'.join(amiss) + '\n' if amiss else '', end='', flush=True)
-    if '--list' in words:
+    if '--list' in given:
         for crate in crates:
             print('wrong %s: %d runs, at least %d' % (crate.name, len(runs_of(crate)), least(crate)))
         return 1 if amiss else 0
     shutil.rmtree(ALL, ignore_errors=True)
     crates = [crate for crate in crates if any(crate.edits.values())]
-    unproved = built(crates)
+    unproved = built(crates, '--proved' in given)
     if unproved:
         print('wrong: NOT TRIED: the library %s is not proved as it stands' % unproved)
         return 1
-    for crate in crates:
-        os.makedirs(os.path.join(ALL, crate.name))
-    wanted, refused, made, number = 0, 0, 0, 0
+    os.makedirs(ALL, exist_ok=True)
+    wanted = sum(len(edits) for crate in crates for edits in crate.edits.values())
     with concurrent.futures.ThreadPoolExecutor(JOBS) as pool:
-        waiting = {pool.submit(seed, crate): crate for crate in reversed(crates)}  # the longest runs are those of the highest
-        while waiting:
-            done, _ = concurrent.futures.wait(waiting, return_when=concurrent.futures.FIRST_COMPLETED)
-            for future in done:
-                crate = waiting.pop(future)
-                if crate is None:
-                    for line in future.result():
-                        refused += 'refused, as it must be' in line
-                        print(line, flush=True)
-                    continue
-                edits = sum(map(len, crate.edits.values()))
-                wanted += edits
-                if not future.result():
-                    print('wrong %s: NOT TRIED: the crate is not proved as it stands (%s)' % (crate.name, os.path.relpath(os.path.join(ALL, crate.name, 'seed.log'), ROOT)), flush=True)
-                    continue
-                for run in runs_of(crate):
-                    waiting[pool.submit(tried, run, number)] = None
-                    number += 1
-                    made += 1
+        first = sorted(crates, key=lambda crate: -sum(len(text) for text in crate.texts.values()) * len(runs_of(crate)))  # the longest first
+        done = list(pool.map(lambda crate: all_of(crate, '--proved' in given), first))
+    refused, made = sum(one for one, _ in done), sum(runs for _, runs in done)
     failed = wanted - refused + len(amiss)
     with open(os.path.join(ALL, 'tally'), 'w', encoding='utf-8') as out:
         out.write('%d %d\n' % (refused, failed))
@@ -259,5 +256,4 @@ def main(words):
 
 if __name__ == '__main__':
     JOBS = int(os.environ.get('WRONG_JOBS') or len(os.sched_getaffinity(0)))
-    KIT = kit()
     sys.exit(main(sys.argv[1:]))
