@@ -44,12 +44,7 @@ abbrev pub next : {T : Type 0} → Result ⊤ Refusal → Result T Refusal → R
 next (Ok x) k = k
 next (Err n) k = Err n
 
--- the number that refuses; 0 where the answer accepts
-abbrev pub refusal_in : {T : Type 0} → Result T Refusal → ℕ
-refusal_in (Ok x) = 0
-refusal_in (Err n) = number_of n
-
--- the same in a flat struct, as a host sees it
+-- an answer in a flat struct, as a host sees it: accepted, or the number that refuses
 abbrev pub verdict_of : {T : Type 0} → Result T Refusal → Verdict
 verdict_of (Ok x) = record { accepted = true; refusal = 0 }
 verdict_of (Err n) = record { accepted = false; refusal = number_of n }

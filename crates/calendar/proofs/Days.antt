@@ -1,11 +1,11 @@
 -- What a real date is, part by part, and that day numbers follow the order of the dates. Only `all-years` sees the leap rule. Assumes nothing.
-use mathlib.Core.Path.{◌≡◌, refl}
+use mathlib.Core.Path.{◌≡◌}
 use mathlib.Core.Bool.{true}
 use Prim.Native.Nat.{ℕ, zero, suc, ◌+◌, ◌-◌, ◌≤◌, ◌<◌}
 use native.Mathlib.Omega.{arith}
 use lib.Dec.{leb, ltb}
 use borrow.Author.Tests.{leb-true, leb-false, ltb-true, ltb-false}
-use Rattle.calendar.specs.Date.{year_of, month_of, day_of, first_date, last_date, is_leap, days_in, is_day, is_date}
+use Rattle.calendar.specs.Date.{year_of, month_of, day_of, first_date, last_date, days_in, is_day, is_date}
 use Rattle.calendar.specs.DayNumber.{days_of_months, days_of_years, day_number}
 use Rattle.answer.proofs.Tests.{cases, split}
 use Rattle.calendar.proofs.Lengths.{months-more}
@@ -104,14 +104,3 @@ number-keeps a b ha h =
     (λ u.
     let m : month_of a ≡ month_of b = omega (arith, ltb-false (month_of a) (month_of b) u) in
     same-month a b p e m (omega arith)))
-
--- the days of the hundred years
-all-years : days_of_years 100 ≡ 36525
-unfolding days_of_years days_of_months days_in is_leap
-all-years = refl
-
--- the dates are numbered below 36,525
-pub number_bound : (d : ℕ) → is_date d ≡ true → day_number d < 36525
-number_bound d h =
-    let r = real d h in
-    omega (arith, before-year d r, years-climb (suc (year_of d - 2000)) 100 (omega (arith, r.year-to)), all-years)

@@ -6,9 +6,12 @@ use Rattle.answer.specs.Answer.{need}
 use Rattle.calendar.specs.Date.{is_date}
 use Rattle.calendar.specs.declared.Stamp.{Stamp}
 
+abbrev pub last_second : ℕ
+last_second = 86399
+
 -- a date by the test that is given, and a second of the day
 abbrev pub stamp_by : (ℕ → Bool) → Stamp → Bool
-stamp_by date s = date s.date && leb s.second 86399
+stamp_by date s = date s.date && leb s.second last_second
 
 unfoldable pub is_stamp : Stamp → Bool
 is_stamp s = stamp_by is_date s

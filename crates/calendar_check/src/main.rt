@@ -1,7 +1,7 @@
 // Holds the calendar against a count of its own that steps from day to day, at every number from 19990000 to 21009999.
 #![tactic(auto)]
 
-ghost use Rattle.std.specs.Prelude.{◌≡◌, true, ◌+◌, ◌≤◌, ◌<◌};
+ghost use Rattle.std.specs.Prelude.{◌≡◌, ◌+◌, ◌≤◌, ◌<◌};
 ghost use Rattle.calendar.specs.Date.{is_date};
 ghost use Rattle.calendar_check.specs.Tally.{Counted};
 

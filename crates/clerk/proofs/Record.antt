@@ -12,7 +12,7 @@ use Rattle.text.specs.Decimal.{starting_with}
 use Rattle.words.specs.Words.{content, word_at, words_behind, has_gap}
 use Rattle.words.specs.Numbers.{are_numbers}
 use Rattle.words.specs.Hex.{is_hex}
-use Rattle.text.proofs.Digits.{cases}
+use Rattle.answer.proofs.Tests.{cases}
 use Rattle.answer.specs.Answer.{need}
 use Rattle.script.specs.declared.forms.Form.{Form}
 use Rattle.script.specs.declared.Fault.{Fault}

@@ -12,7 +12,7 @@ use borrow.Rule.Slice.Mut.{set_vals}
 use Rattle.text.specs.Decimal.{starting_with}
 use Rattle.text.specs.Written.{Written}
 use Rattle.text.proofs.Behind.{part-is, part-put}
-use Rattle.text.proofs.Digits.{cases}
+use Rattle.answer.proofs.Tests.{cases}
 use Rattle.place.specs.declared.Page.{Page}
 use Rattle.place.specs.Place.{behind, Placed}
 

@@ -11,7 +11,7 @@ use borrow.Author.Tests.{eq-eqb, ne_eqb, eqb-true, eqb-false}
 use lib.Signed.{mag}
 use Rattle.units.proofs.Integers.{up, dn, minus, small}
 use Rattle.report.specs.Closing.{is_number}
-use Rattle.text.proofs.Digits.{cases}
+use Rattle.answer.proofs.Tests.{cases}
 
 back : (a b : ℤ) → SFits w128 a → SFits w128 b → of_z w128 a ≡ of_z w128 b → a ≡ b
 back a b f g e = sym (to_z-of_z w128 a f) ∙ ap (λ n. to_z w128 n) e ∙ to_z-of_z w128 b g

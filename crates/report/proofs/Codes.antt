@@ -11,7 +11,7 @@ use Rattle.text.specs.Hex.{hexadecimal}
 use Rattle.account.specs.declared.Codes.{Codes}
 use Rattle.account.specs.Codes.{told}
 use Rattle.report.specs.Lines.{codes_text}
-use Rattle.text.proofs.Digits.{cases}
+use Rattle.answer.proofs.Tests.{cases}
 use borrow.Author.Tests.{ltb-true, ltb-false}
 
 codes-behind : (v : List ℕ) (x : ℕ) → codes_text (v ++ (x ∷ [])) ≡ codes_text v ++ (32 ∷ hexadecimal x)

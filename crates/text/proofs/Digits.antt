@@ -1,15 +1,10 @@
 -- Numbers in a base, the last digit behind the digits of the quotient. Assumes nothing.
-use mathlib.Core.Path.{◌≡◌, refl}
-use mathlib.Core.Bool.{Bool, true, false}
+use mathlib.Core.Path.{◌≡◌}
 use mathlib.Core.List.{[], ◌∷◌, ◌++◌}
 use Prim.Native.Nat.{ℕ, zero, suc, ◌-◌, ◌/◌, ◌%◌, ◌≤◌, ◌<◌}
 use native.Mathlib.Omega.{arith}
 use borrow.Author.Tests.{lt-ltb, le-ltb}
 use Rattle.text.specs.Decimal.{glyph, digits_of}
-
-pub cases : {P : Type 0} (t : Bool) → (t ≡ true → P) → (t ≡ false → P) → P
-cases true f g = f refl
-cases false f g = g refl
 
 pub one_digit : (b k x : ℕ) → 1 ≤ k → x < b → digits_of b k x ≡ glyph x ∷ []
 unfolding digits_of

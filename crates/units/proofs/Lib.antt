@@ -1,4 +1,3 @@
 pub mod Integers
 pub mod Balance
 pub mod Floor
-pub mod Sums
