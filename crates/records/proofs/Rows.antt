@@ -23,9 +23,9 @@ pub held-long : (from : ℕ) (h : List ℕ) → length (held_from from h) ≡ ge
 unfolding held_from
 held-long from h = rows_long h (from + 1) (get_or h from 0)
 
-pub shelf-long : (s : Shelf) (h : List ℕ) → length (held_on s h) ≡ get_or h (shelf_place s) 0
-shelf-long Day h = held-long 0 h
-shelf-long Month h = held-long 187 h
+pub shelf_long : (s : Shelf) (h : List ℕ) → length (held_on s h) ≡ get_or h (shelf_place s) 0
+shelf_long Day h = held-long 0 h
+shelf_long Month h = held-long 187 h
 
 -- record k begins three words behind the one before it
 row_at : (h : List ℕ) (from n k : ℕ) → k < n → record_at h (from + 3 * k + 1) ≡ get_or (rows h (from + 1) n) k no_record
@@ -37,22 +37,22 @@ row_at h from (suc n) (suc k) p =
     let f : from + 1 + 3 ≡ from + 3 + 1 = omega arith in
     rw (e, f) (row_at h (from + 3) n k (omega arith))
 
-pub shelf-at : (s : Shelf) (h : List ℕ) (k : ℕ)
+pub shelf_at : (s : Shelf) (h : List ℕ) (k : ℕ)
     → k < length (held_on s h)
     → record_at h (shelf_place s + 3 * k + 1) ≡ get_or (held_on s h) k no_record
 unfolding held_from
-shelf-at Day h k p = row_at h 0 (get_or h 0 0) k (omega (arith, held-long 0 h))
-shelf-at Month h k p = row_at h 187 (get_or h 187 0) k (omega (arith, held-long 187 h))
+shelf_at Day h k p = row_at h 0 (get_or h 0 0) k (omega (arith, held-long 0 h))
+shelf_at Month h k p = row_at h 187 (get_or h 187 0) k (omega (arith, held-long 187 h))
 
 -- record k of a list: it is there, or the list is no longer than k
-pub fetched-held : (l : List Record) (k : ℕ) → k < length l → fetched l k ≡ Ok (get_or l k no_record)
+pub fetched_held : (l : List Record) (k : ℕ) → k < length l → fetched l k ≡ Ok (get_or l k no_record)
 unfolding fetched
-fetched-held [] k p = absurd (omega arith)
-fetched-held (r ∷ l) zero p = refl
-fetched-held (r ∷ l) (suc k) p = fetched-held l k (omega arith)
+fetched_held [] k p = absurd (omega arith)
+fetched_held (r ∷ l) zero p = refl
+fetched_held (r ∷ l) (suc k) p = fetched_held l k (omega arith)
 
-pub fetched-not : (l : List Record) (k : ℕ) → length l ≤ k → fetched l k ≡ Err NotHeld
+pub fetched_not : (l : List Record) (k : ℕ) → length l ≤ k → fetched l k ≡ Err NotHeld
 unfolding fetched
-fetched-not [] k p = refl
-fetched-not (r ∷ l) zero p = absurd (omega arith)
-fetched-not (r ∷ l) (suc k) p = fetched-not l k (omega arith)
+fetched_not [] k p = refl
+fetched_not (r ∷ l) zero p = absurd (omega arith)
+fetched_not (r ∷ l) (suc k) p = fetched_not l k (omega arith)

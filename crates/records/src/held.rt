@@ -93,6 +93,7 @@ impl<'a> Rows<'a> {
     }
 
     // How many records it holds.
+    #[tactic(auto, using(crate::proofs::Rows::shelf_long))]
     fn count(self) -> usize
         ensures { result ≡ length (rows_of self.entry) }
     {
@@ -100,6 +101,7 @@ impl<'a> Rows<'a> {
     }
 
     // Record k, where it is held, and they are no more than the shelf has room for.
+    #[tactic(auto, using(crate::proofs::Rows::shelf_at))]
     fn row(self, k: usize) -> Record
         requires held { k < length (rows_of self) }
         requires few { CountFits self.shelf self.words.now }
@@ -108,17 +110,28 @@ impl<'a> Rows<'a> {
         record_at(self.words, self.shelf.place() + 3 * k + 1)
     }
 
-    // Whether the records keep the bounds, and are no more than the shelf has room for.
+    // Whether the records keep the bounds, and are no more than the shelf has room for. A `while` and no `all`: compiled, it tests the
+    // count where it jumps back, and `all` in front of each record.
     fn is_good(self, limits: Limits) -> bool
         ensures { result ≡ (leb (length (rows_of self.entry)) (shelf_limit self.entry.shelf) && records_good limits.top.0 limits.total.0 (rows_of self.entry)) }
     {
         let n = self.count();
-        let few = n <= self.shelf.limit();
-        few && (0..n).all(|k| self.row(k).is_good(limits))
+        if n > self.shelf.limit() {
+            return false;
+        }
+        let mut k = 0;
+        while k < n {
+            if !self.row(k).is_good(limits) {
+                return false;
+            }
+            k += 1;
+        }
+        true
     }
 }
 
-// Whether the held records keep the bounds.
+// Whether the held records keep the bounds. Not inlined, so that the loops have the processor's registers for themselves.
+#[inline(never)]
 #[tactic(auto, unfolding(crate::specs::Bounds::held_good))]
 pub fn is_good(h: &Words, limits: Limits) -> bool
     ensures { result ≡ held_good limits.top.0 limits.total.0 (held_of h.now) }
@@ -157,6 +170,7 @@ fn push(h: &mut Words, shelf: Shelf, r: Record)
 
 // Record k of a shelf, newest first from 0. The two make one question; a struct of them would be taken
 // apart at once.
+#[tactic(auto, using(crate::proofs::Rows::fetched_held, crate::proofs::Rows::fetched_not))]
 pub fn record(h: &Words, shelf: Shelf, k: usize) -> Result<Record, Refusal>
     requires { CountFits shelf h.now }
     ensures { result ≡ fetched (held_on shelf h.now) k }

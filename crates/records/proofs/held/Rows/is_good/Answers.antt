@@ -1,45 +1,29 @@
--- `all` over the places is true where every record is good, and false where one is not.
-use Rattle.std.proofs.Common.{◌≡◌, ℕ, ◌+◌, ◌<◌, Bool, true, false, leb, List, length, get_or, refl, sym, arith, rules}
-use Rattle.std.specs.Bool.{MatchBool}
-use Rattle.std.specs.List.{AllWithin, HoldsAt, range_with_len}
-use Rattle.std.proofs.lemmas.Iterator.{cases_from_all, YieldsList-from_range}
-use Rattle.std.proofs.lemmas.List.FromFn.{length-range_with_len, get_or-range_with_len}
+-- The first record that is not good decides; where there is none, all are good.
+use Rattle.std.proofs.Common.{◌≡◌, true, leb, refl, sym, ◌∙◌, arith, rules}
 use Rattle.std.proofs.lemmas.List.Recursion.{and_from_places, and_fails_at}
 use borrow.Author.Tests.{tests}
-use Rattle.records.specs.declared.Record.{Record}
 use Rattle.records.specs.Bounds.{record_good, records_good}
 use Rattle.records.specs.Records.{no_record}
-use Rattle.records.specs.Words.{held_on}
+use Rattle.records.specs.Words.{rows_of}
 use Rattle.records.proofs.held.Rows.is_good.Goals as goal
 
-module _ (top total : ℕ) (l : List Record) where
-  abbrev At : Bool → ℕ → Type 0
-  At answer k = record_good top total (get_or l k no_record) ≡ answer
-
-  by_places : (n : ℕ) (answer : Bool)
-      → n ≡ length l
-      → MatchBool answer (AllWithin (At true) (range_with_len 0 n) 0 (length (range_with_len 0 n)))
-      ((k : ℕ) × (k < length (range_with_len 0 n)) × HoldsAt (At false) (range_with_len 0 n) k)
-      → answer ≡ records_good top total l
-  unfolding records_good
-  by_places n true e h =
-      let long : length (range_with_len 0 n) ≡ n = length-range_with_len 0 n in
-      sym (and_from_places (records_good top total) (record_good top total) refl (λ r rs. refl) l no_record
-      (λ k p. let z : 0 + k ≡ k = omega arith in rw (get_or-range_with_len 0 n k 0 (omega arith), z) at (h k 0 (omega arith) (omega arith))))
-  by_places n false e h =
-      let long : length (range_with_len 0 n) ≡ n = length-range_with_len 0 n in
-      let z : 0 + h.0 ≡ h.0 = omega arith in
-      sym (and_fails_at (records_good top total) (record_good top total) refl (λ r rs. refl) l h.0 no_record (omega (arith, h.1))
-      (rw (get_or-range_with_len 0 n h.0 0 (omega (arith, h.1)), z) at (h.2 0)))
-
-pub returns-then-few : goal.returns-then-few
-returns-then-few c =
-    let top = c.args.limits.top.0 in
-    let total = c.args.limits.total.0 in
-    let l = held_on c.args.self.shelf c.args.self.words.now in
-    let n = c.count-n.result in
-    let few : leb n c.limit.result ≡ true = search (rules, tests) in
+pub returns-then-not-is_good : goal.returns-then-not-is_good
+unfolding records_good
+returns-then-not-is_good c =
+    let good = record_good c.args.limits.top.0 c.args.limits.total.0 in
+    let few : leb c.count-n.result c.limit.result ≡ true = search (rules, tests) in
     rw (← c.count-n.ensures, ← c.limit.ensures.limit, few)
-    (by_places top total l n c.all.result c.count-n.ensures
-    (cases_from_all _ _ _ (At top total l true) (At top total l false) c.all.ensures.ran (YieldsList-from_range 0 n n (cc) (omega arith))
-    (λ k q p. search (rules, tests)) (λ k q p. search (rules, tests))))
+    (sym (and_fails_at (records_good c.args.limits.top.0 c.args.limits.total.0) good refl (λ r rs. refl) (rows_of c.args.self) c.loop-k.k no_record
+    (omega (arith, c.loop-k-test.true, c.count-n.ensures)) (rw (← c.row.ensures) (sym c.is_good.ensures ∙ c.if-not-is_good.true))))
+
+pub loop-k-preserved : goal.loop-k-preserved
+loop-k-preserved c = λ k p. grind (arith, c.loop-k.invariant, c.is_good.ensures, c.if-not-is_good.false, c.row.ensures)
+
+pub returns : goal.returns
+unfolding records_good
+returns c =
+    let good = record_good c.args.limits.top.0 c.args.limits.total.0 in
+    let few : leb c.count-n.result c.limit.result ≡ true = search (rules, tests) in
+    rw (← c.count-n.ensures, ← c.limit.ensures.limit, few)
+    (sym (and_from_places (records_good c.args.limits.top.0 c.args.limits.total.0) good refl (λ r rs. refl) (rows_of c.args.self) no_record
+    (λ k p. c.loop-k.invariant k (omega (arith, p, c.loop-k-test.false, c.count-n.ensures)))))
