@@ -9,17 +9,18 @@ use borrow.Author.Tests.{leb-true, ltb-true, le-leb, eqb-true, eqb-false, not-tr
 use lib.Dec.{ltb, eqb}
 use lib.IntN.{pos, ◌+ℤ◌}
 use lib.Signed.{le_z, lt_z}
+use Rattle.units.specs.Volume.{highest_price, highest_total}
 use Rattle.units.specs.Money.{Small, in_bounds, in_millionths, highest_balance}
 use Rattle.units.proofs.Balance.{are-bounds, in_small, debit-in, credit-in}
 use Rattle.std.specs.Prelude.{Ok}
 use Rattle.answer.specs.declared.Refusal.TheVariants.{Serial, SerialAgain, SerialBelow, SerialAbove, NoAmount, Balance}
 use Rattle.answer.proofs.Tests.{split, need-both}
 use Rattle.account.specs.declared.Account.{Account}
-use Rattle.account.specs.Account.{highest_alarm, recharge_refusal, recharged, alarms_good, alarmed, charged, account_good, is_fresh_account}
+use Rattle.account.specs.Account.{highest_serial, highest_alarm, recharge_refusal, recharged, alarms_good, alarmed, charged, account_good, is_fresh_account}
 
 -- the bounds in parts, both ways
 record Parts (a : Account) (total : ℕ) : Type 0 where
-  serial : a.serial ≤ 65535
+  serial : a.serial ≤ highest_serial
   alarms : alarms_good a.one a.two ≡ true
   bounds : in_bounds highest_balance a.balance.0 total ≡ true
 
@@ -32,24 +33,24 @@ good-parts a total e =
 
 parts-good : (a : Account) (total : ℕ) → Parts a total → account_good a total ≡ true
 unfolding account_good
-parts-good a total p = rw (le-leb a.serial 65535 p.serial, p.alarms) p.bounds
+parts-good a total p = rw (le-leb a.serial highest_serial p.serial, p.alarms) p.bounds
 
 -- the alarms in order, and at most 999,999
-pub alarms-order : (one two : ℕ) → alarms_good one two ≡ true → (two < one) × (one ≤ 999999)
+pub alarms-order : (one two : ℕ) → alarms_good one two ≡ true → (two < one) × (one ≤ highest_alarm)
 unfolding alarms_good
 alarms-order one two e = let o = split (split {a = ltb 0 two} e).1 in (ltb-true two one o.0, leb-true one highest_alarm o.1)
 
 -- what the bounds of an account tell a caller
 pub record Room (a : Account) (total : ℕ) : Type 0 where
   pub small : Small a.balance.0
-  pub serial : a.serial ≤ 65535
-  pub one : a.one ≤ 999999
-  pub two : a.two ≤ 999999
+  pub serial : a.serial ≤ highest_serial
+  pub one : a.one ≤ highest_alarm
+  pub two : a.two ≤ highest_alarm
   pub bounds : in_bounds highest_balance a.balance.0 total ≡ true
   pub alarms : alarms_good a.one a.two ≡ true
 
 -- an account in its bounds has that room
-pub account-room : (a : Account) (total : ℕ) → account_good a total ≡ true → total ≤ 99999999 → Room a total
+pub account-room : (a : Account) (total : ℕ) → account_good a total ≡ true → total ≤ highest_total → Room a total
 account-room a total e h =
     let p = good-parts a total e in
     let o = alarms-order a.one a.two p.alarms in
@@ -63,7 +64,7 @@ account-room a total e h =
     }
 
 -- a charge of n more hundredths keeps the bounds
-pub charged-good : (a : Account) (total n cost : ℕ) → cost ≤ n * 99999999 → account_good a total ≡ true → account_good (charged a cost) (total + n) ≡ true
+pub charged-good : (a : Account) (total n cost : ℕ) → cost ≤ n * highest_price → account_good a total ≡ true → account_good (charged a cost) (total + n) ≡ true
 charged-good a total n cost h e =
     let p = good-parts a total e in
     parts-good (charged a cost) (total + n)
@@ -72,7 +73,7 @@ charged-good a total n cost h e =
 -- the tests that an accepted recharge has passed
 pub record Vetted (a : Account) (amount serial : ℕ) : Type 0 where
   pub low : 1 ≤ serial
-  pub high : serial ≤ 65535
+  pub high : serial ≤ highest_serial
   pub next : serial ≡ a.serial + 1
   pub some : 1 ≤ amount
   pub takes : le_z (a.balance.0 +ℤ pos (in_millionths amount)) (pos highest_balance) ≡ true
@@ -106,7 +107,7 @@ recharged-good a total amount serial r e =
     (record { serial = v.high; alarms = p.alarms; bounds = credit-in highest_balance a.balance.0 total (in_millionths amount) v.takes p.bounds })
 
 -- the amount of an accepted recharge fits
-pub recharge-small : (a : Account) (total amount serial : ℕ) → account_good a total ≡ true → total ≤ 99999999 → recharge_refusal a amount serial ≡ Ok tt
+pub recharge-small : (a : Account) (total amount serial : ℕ) → account_good a total ≡ true → total ≤ highest_total → recharge_refusal a amount serial ≡ Ok tt
     → amount ≤ 2 ^ 55
 recharge-small a total amount serial e h r =
     let v = vetted a amount serial r in

@@ -17,12 +17,16 @@ event_code AtAlarmTwo = 0x2F
 event_code AtZero = 0x30
 event_code InDebt = 0x33
 
+-- how many an answer holds
+abbrev pub code_limit : ℕ
+code_limit = 8
+
 abbrev pub no_codes : Codes
-no_codes = record { count = 0; said = replicate 8 0 }
+no_codes = record { count = 0; said = replicate code_limit 0 }
 
 -- one code more
 unfoldable pub noted : Codes → ℕ → Codes
-noted k c = cond (ltb k.count 8) (record { count = k.count + 1; said = set k.said k.count c }) k
+noted k c = cond (ltb k.count code_limit) (record { count = k.count + 1; said = set k.said k.count c }) k
 
 -- a list of codes after those that are there
 unfoldable pub note_all : Codes → List ℕ → Codes

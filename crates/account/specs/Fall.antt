@@ -6,7 +6,8 @@ use Rattle.units.specs.Money.{of_yuan}
 use Rattle.account.specs.declared.Account.{Account}
 use Rattle.account.specs.declared.Fall.{Fall}
 use Rattle.account.specs.declared.Codes.{Codes}
-use Rattle.account.specs.Codes.{code_if, note_all}
+use Rattle.account.specs.declared.Event.TheVariants.{AtAlarmOne, AtAlarmTwo, AtZero, InDebt}
+use Rattle.account.specs.Codes.{event_code, code_if, note_all}
 use Rattle.account.specs.Valve.{closing}
 
 -- a threshold: its code, whether an open valve closes on it, and which balances are at or below it
@@ -18,10 +19,10 @@ pub record Mark : Type 0 where
 -- the four thresholds of an account
 unfoldable pub marks : Account → List Mark
 marks a =
-    record { code = 0x2E; closes = false; below = λ z. le_z z (pos (of_yuan a.one)) }
-    ∷ record { code = 0x2F; closes = true; below = λ z. le_z z (pos (of_yuan a.two)) }
-    ∷ record { code = 0x30; closes = true; below = λ z. le_z z (pos 0) }
-    ∷ record { code = 0x33; closes = false; below = λ z. lt_z z (pos 0) }
+    record { code = event_code AtAlarmOne; closes = false; below = λ z. le_z z (pos (of_yuan a.one)) }
+    ∷ record { code = event_code AtAlarmTwo; closes = true; below = λ z. le_z z (pos (of_yuan a.two)) }
+    ∷ record { code = event_code AtZero; closes = true; below = λ z. le_z z (pos 0) }
+    ∷ record { code = event_code InDebt; closes = false; below = λ z. lt_z z (pos 0) }
     ∷ []
 
 -- "on crossing from above": not below at the balance before, below at the balance after

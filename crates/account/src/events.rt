@@ -23,7 +23,7 @@ impl Codes {
     {
         Codes {
             count: 0,
-            said: [0; 8],
+            said: [0; Codes::MOST],
         }
     }
 

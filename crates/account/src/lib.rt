@@ -6,7 +6,7 @@ mod thresholds; // thresholds.rt: the valve, and the thresholds that close it
 
 ghost use Rattle.std.specs.Prelude.{◌≡◌, ◌≤◌, ◌<◌, ◌^◌};
 ghost use Rattle.units.specs.Money.{Small};
-ghost use Rattle.account.specs.Account.{fresh_account, is_fresh_account, recharge_refusal, recharged, alarms_good, alarmed, charged, account_good};
+ghost use Rattle.account.specs.Account.{highest_serial, fresh_account, is_fresh_account, recharge_refusal, recharged, alarms_good, alarmed, charged, account_good};
 ghost use Rattle.account.specs.Fall.{fall_of};
 
 use answer::Refusal;
@@ -51,7 +51,7 @@ pub enum Event {
 #[derive(Clone, Copy, PartialEq, Eq)]
 pub struct Codes {
     pub count: usize,
-    pub said: [u32; 8],
+    pub said: [u32; Codes::MOST],
 }
 
 // A valve on its way past the thresholds, with the codes so far.
@@ -114,7 +114,7 @@ impl Account {
     #[tactic(auto, unfolding(crate::specs::Account::recharge_refusal))]
     pub fn vet(self, amount: TenThousandths, serial: u32) -> Result<(), Refusal>
         requires small { Small self.balance.0 }
-        requires serial_bound { self.serial ≤ 65535 }
+        requires serial_bound { self.serial ≤ highest_serial }
         ensures { result ≡ recharge_refusal self amount.0 serial }
     {
         answer::need(

@@ -4,8 +4,8 @@ use mathlib.Core.Path.{◌≡◌, refl, sym, ◌∙◌}
 use mathlib.Core.Bool.{Bool, true, false, cond, ◌||◌}
 use Prim.Native.Nat.{ℕ, ◌+◌, ◌*◌, ◌≤◌}
 use native.Mathlib.Omega.{arith}
-use lib.Dec.{eqb}
 use borrow.Author.Tests.{leb-true, le-leb, eqb-true, eq-eqb, not-true}
+use Rattle.units.specs.Volume.{highest_price}
 use Rattle.std.specs.Prelude.{Result, Ok, Err}
 use Rattle.answer.specs.declared.Refusal.{Refusal}
 use Rattle.answer.specs.declared.Refusal.TheVariants.{Slot as NoSlot, InForce, Overlap}
@@ -20,7 +20,7 @@ use Rattle.slots.specs.declared.SlotName.TheVariants.{One, Two}
 use Rattle.slots.specs.World.{World}
 use Rattle.slots.specs.Laws.{Laws}
 use Rattle.slots.specs.Slots.{slot_at, in_slot, plan_on, slot_on, some_force, charge_on, fee, used, keeps, usage_on, slots_turned}
-use Rattle.slots.specs.Load.{slot_named, other_at, holding, meets_slot, room_refusal, load_refusal, loaded}
+use Rattle.slots.specs.Load.{is_slot, slot_named, other_at, holding, meets_slot, room_refusal, load_refusal, loaded}
 use Rattle.slots.specs.Bounds.{slot_good, apart, slots_good, idle_good, is_fresh_slots, BothGood}
 use Rattle.slots.proofs.InForce.{force_is, no-plan, plan-one, plan-two, plan-none}
 
@@ -75,10 +75,6 @@ module _ (w : World) where
       let b = split a.1 in
       record { one = not-true _ a.0; two = not-true _ b.0; usage = eqb-true _ _ b.1 }
 
-  pub no-force : (s : Slots) (d : ℕ) → is_fresh_slots s ≡ true → some_force w s d ≡ false
-  unfolding in_slot
-  no-force s d h = let u = unloaded s h in both-none s d (rw u.one) (rw u.two)
-
   pub fresh-slots : (s : Slots) (d total : ℕ) → is_fresh_slots s ≡ true → slots_good w s d total ≡ true
   unfolding slots_good slot_good apart
   fresh-slots s d total h = let u = unloaded s h in rw (u.one, u.two, le-leb s.usage.0 total (omega (arith, u.usage)))
@@ -117,15 +113,15 @@ module _ (w : World) where
 
   -- of a slot by its number and of a plan that was read
   pub record Loads (s : Slots) (d k : ℕ) (r : Result Plan Refusal) : Type 0 where
-    pub slot : (eqb k 1 || eqb k 2) ≡ true
+    pub slot : is_slot k ≡ true
     pub read : r ≡ Ok (plan_in r)
     pub room : Room s d (slot_named k) (plan_in r)
 
   pub loads : (s : Slots) (d k : ℕ) (r : Result Plan Refusal) → load_refusal w s d k r ≡ Ok tt → Loads s d k r
   unfolding load_refusal
-  loads s d k r h = let n = need-both {b = eqb k 1 || eqb k 2} NoSlot h in go r n.1 n.0
+  loads s d k r h = let n = need-both {b = is_slot k} NoSlot h in go r n.1 n.0
     where
-      go : (r : Result Plan Refusal) → of_plan r (room_refusal w s d (slot_named k)) ≡ Ok tt → (eqb k 1 || eqb k 2) ≡ true → Loads s d k r
+      go : (r : Result Plan Refusal) → of_plan r (room_refusal w s d (slot_named k)) ≡ Ok tt → is_slot k ≡ true → Loads s d k r
       go (Ok p) h n = record { slot = n; read = refl; room = room s d (slot_named k) p h }
       go (Err n) h _ = cc
 
@@ -152,11 +148,11 @@ module _ (w : World) (L : Laws w) where
   }
 
   -- n pulses cost at most the highest price for each
-  slot-cap : (s : Slot) (d u n : ℕ) → slot_good w s ≡ true → in_slot w s d ≡ true → w.charge s.plan (u + n) ≤ w.charge s.plan u + n * 99999999
+  slot-cap : (s : Slot) (d u n : ℕ) → slot_good w s ≡ true → in_slot w s d ≡ true → w.charge s.plan (u + n) ≤ w.charge s.plan u + n * highest_price
   unfolding slot_good in_slot
   slot-cap s d u n h i = L.charge-cap s.plan u n (rw (and_left s.loaded _ i) at h)
 
-  pub fee-cap : (s : Slots) (d total n : ℕ) → Apart w s d total → fee w s d n ≤ n * 99999999
+  pub fee-cap : (s : Slots) (d total n : ℕ) → Apart w s d total → fee w s d n ≤ n * highest_price
   unfolding fee charge_on
   fee-cap s d total n a = cases (in_slot w s.one d)
       (λ i. rw (plan-one w s d i) (omega (arith, slot-cap s.one d s.usage.0 n a.good.one i)))

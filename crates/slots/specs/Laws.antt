@@ -1,5 +1,6 @@
 -- The laws of the calendar, of plans and of the step charge on which demand 3 rests.
 use Rattle.std.specs.Prelude.{◌≡◌, true, false, List, ℕ, ◌+◌, ◌*◌, ◌≤◌, is_ok}
+use Rattle.units.specs.Volume.{highest_price}
 use Rattle.plan.specs.declared.Plan.{Plan}
 use Rattle.record.specs.Record.{read_of, plan_in}
 use Rattle.slots.specs.World.{World}
@@ -20,7 +21,7 @@ pub record Billing (w : World) : Type 0 where
 pub record Laws (w : World) : Type 0 where
   pub billing : Billing w
   -- a hundredth costs at most the highest price
-  pub charge-cap : (p : Plan) (u n : ℕ) → w.good p ≡ true → w.charge p (u + n) ≤ w.charge p u + n * 99999999
+  pub charge-cap : (p : Plan) (u n : ℕ) → w.good p ≡ true → w.charge p (u + n) ≤ w.charge p u + n * highest_price
   -- plans that do not meet do not meet later, nor the other way round
   pub meet-later : (p q : Plan) (d e : ℕ) → d ≤ e → w.meet p q d ≡ false → w.meet p q e ≡ false
   pub meet-swap : (p q : Plan) (d : ℕ) → w.meet p q d ≡ false → w.meet q p d ≡ false

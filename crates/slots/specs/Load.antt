@@ -17,8 +17,11 @@ use Rattle.slots.specs.Slots.{by_slot, slot_at, in_slot}
 abbrev pub slot_named : ℕ → SlotName
 slot_named k = cond (eqb k 1) One Two
 
+abbrev pub is_slot : ℕ → Bool
+is_slot k = eqb k 1 || eqb k 2
+
 abbrev pub named : {T : Type 0} → ℕ → Result T Refusal → Result T Refusal
-named k rest = need (eqb k 1 || eqb k 2) NoSlot rest
+named k rest = need (is_slot k) NoSlot rest
 
 -- the slot that is not slot k
 abbrev pub other_at : Slots → SlotName → Slot
