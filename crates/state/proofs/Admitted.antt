@@ -32,11 +32,8 @@ pub record Admitted (m : State) (s : Stamp) (d : ℕ) : Type 0 where
   pub passed : stamp_refusal real m s ≡ Ok tt
   pub date : d ≡ s.date
   pub bounds : bounded real m ≡ true
-  pub stamp : stamp_good real s ≡ true
-  pub later : not_before m.clock s ≡ true
 
 pub admitted : (m : State) (s : Stamp) (d : ℕ) → next (stamp_refusal real m s) (Ok s.date) ≡ Ok d → Admitted m s d
 admitted m s d h =
     let a = next_both {a = stamp_refusal real m s} {b = Ok s.date} h in
-    let b = stamp-passed real m s a.0 in
-    record { passed = a.0; date = cc; bounds = b.0; stamp = b.1; later = b.2 }
+    record { passed = a.0; date = cc; bounds = (stamp-passed real m s a.0).0 }

@@ -102,7 +102,7 @@ module _ (w : World) where
   -- a meter within its bounds, with a clock or without one
   pub bounded-state : (m : State) → bounded w m ≡ true → Parts m
   unfolding bounded
-  bounded-state m h = cases (no_clock m) (λ t. (fresh-parts m (rw t at h)).0) (λ t. state-in m (and_right (stamp_good w m.clock) _ (rw t at h)))
+  bounded-state m h = cases (no_clock m.clock) (λ t. (fresh-parts m (rw t at h)).0) (λ t. state-in m (and_right (stamp_good w m.clock) _ (rw t at h)))
 
 -- a meter with a good clock and a good state is within its bounds
 pub state-bounded : (w : World) (L : Laws w) (m : State) → stamp_good w m.clock ≡ true → Parts w m → bounded w m ≡ true

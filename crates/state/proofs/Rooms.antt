@@ -8,7 +8,7 @@ use lib.Dec.{leb, ltb}
 use Rattle.units.specs.Money.{Small, highest_balance}
 use Rattle.std.specs.Prelude.{Ok}
 use Rattle.answer.specs.declared.Refusal.TheVariants.{Pulses, Total}
-use Rattle.answer.proofs.Tests.{cases, never, split, need-both}
+use Rattle.answer.proofs.Tests.{cases, split, need-both}
 use borrow.Author.Tests.{le-ltb, leb-true}
 use Rattle.calendar.specs.declared.Stamp.{Stamp}
 use Rattle.calendar.specs.Date.{is_date}
@@ -18,19 +18,19 @@ use Rattle.account.proofs.Kept.{account-room, recharge-small}
 use Rattle.records.specs.Turn.{HasRoom}
 use Rattle.records.proofs.Room.{room}
 use Rattle.slots.specs.World.{real}
-use Rattle.slots.specs.Slots.{some_force, slot_on, force_on, fee, slots_turned}
+use Rattle.slots.specs.Slots.{slot_on, force_on, fee, slots_turned}
 use Rattle.slots.specs.Bounds.{apart, BothGood}
-use Rattle.slots.proofs.Kept.{slots-in, no-force, fee-cap}
+use Rattle.slots.proofs.Kept.{slots-in, fee-cap}
 use Rattle.slots.proofs.Real.{real-laws}
 use Rattle.records.specs.Records.{none_held}
 use Rattle.records.specs.Bounds.{is_fresh_held}
 use Rattle.records.proofs.Kept.{fresh-held}
 use Rattle.state.specs.declared.Registers.{Registers}
 use Rattle.state.specs.State.{State, state_with, state_of, alone, registers_of, with_clock}
-use Rattle.state.specs.Bounds.{stamp_good, no_clock, is_fresh, state_good, bounded}
+use Rattle.state.specs.Bounds.{stamp_good, no_clock, state_good, bounded}
 use Rattle.state.specs.Turn.{turn, turned_to, turn_codes, turn_words}
 use Rattle.state.specs.Refusals.{stamp_refusal, most_pulses, pulse_refusal}
-use Rattle.state.proofs.Parts.{Parts, total-in, total-low, state-in, state-out, fresh-parts, bounded-state}
+use Rattle.state.proofs.Parts.{Parts, total-in, total-low, state-in, state-out, bounded-state}
 use Rattle.state.proofs.Turned.{turn-state, turn-volumes}
 use Rattle.state.proofs.Admitted.{stamp-passed}
 
@@ -51,18 +51,9 @@ pub slots_apart : (m : State) → Parts real m → apart real m.slots.one m.slot
 slots_apart m s = (slots-in real m.slots m.clock.date m.volumes.total.0 s.slots).apart
 
 -- a plan in force on the clock's date: the clock has a date
-pub clocked : (m : State) → bounded real m ≡ true → no_clock m ≡ false → is_date m.clock.date ≡ true
+pub clocked : (m : State) → bounded real m ≡ true → no_clock m.clock ≡ false → is_date m.clock.date ≡ true
 unfolding bounded stamp_good
 clocked m h q = (split (split (rw q at h)).0).0
-
-unclocked : (m : State) → bounded real m ≡ true → no_clock m ≡ true → is_fresh m ≡ true
-unfolding bounded
-unclocked m h q = rw q at h
-
-pub date-some : (m : State) → bounded real m ≡ true → some_force real m.slots m.clock.date ≡ true → is_date m.clock.date ≡ true
-date-some m h i = cases (no_clock m)
-    (λ q. absurd (never i (no-force real m.slots m.clock.date (fresh-parts real m (unclocked m h q)).1)))
-    (λ q. clocked m h q)
 
 -- a pulse call
 pub record PulseRoom (m : State) (n : ℕ) : Type 0 where

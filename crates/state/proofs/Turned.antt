@@ -57,8 +57,8 @@ module _ (w : World) (L : Laws w) where
         volumes = i.volumes;
         account = i.account;
         slots = slots-out w _ s.date t (slots-turned w L m.slots d s.date t h (slots-in w m.slots d t i.slots));
-        periods = cases (no_clock m) (λ n. rw n i.periods) (λ n. rw n (opened-good highest_balance t m.periods d s.date i.periods));
-        held = cases (no_clock m)
+        periods = cases (no_clock m.clock) (λ n. rw n i.periods) (λ n. rw n (opened-good highest_balance t m.periods d s.date i.periods));
+        held = cases (no_clock m.clock)
             (λ n. rw n i.held)
             (λ n. rw n (closed-good highest_balance t m.held m.periods d s.date m.account.balance i.held i.periods b));
         idle = idle-out w (turned_to w m s) (λ f.

@@ -23,7 +23,7 @@ module _ (r : Registers) (words : List ℕ) (s : Stamp) (long : length words ≡
   pub turn-long : length (turn_words r s words) ≡ 548
   unfolding turn_words state_with
   turn-long = cases (ltb r.clock.date s.date)
-      (λ l. rw l (cases (no_clock (state_of r words))
+      (λ l. rw l (cases (no_clock r.clock)
       (λ t. rw t long)
       (λ t. rw t (closed-long r.periods r.clock.date s.date r.account.balance words long))))
       (λ l. rw l long)
@@ -31,7 +31,7 @@ module _ (r : Registers) (words : List ℕ) (s : Stamp) (long : length words ≡
   pub turn-held : bounded real (state_of r words) ≡ true → (turn real (state_of r words) s).held ≡ held_of (turn_words r s words)
   unfolding turn turned_to turn_words state_with
   turn-held h = cases (ltb r.clock.date s.date)
-      (λ l. rw l (cases (no_clock (state_of r words))
+      (λ l. rw l (cases (no_clock r.clock)
       (λ t. rw t)
       (λ t.
       let low : r.clock.date < 2 ^ 32 = omega (arith, (real-date r.clock.date (clocked (state_of r words) h t)).to) in

@@ -17,8 +17,8 @@ unfoldable pub stamp_good : World → Stamp → Bool
 stamp_good w s = stamp_by w.date s
 
 -- no accepted call yet
-abbrev pub no_clock : State → Bool
-no_clock m = eqb m.clock.date 0
+abbrev pub no_clock : Stamp → Bool
+no_clock s = eqb s.date 0
 
 unfoldable pub is_fresh_volumes : Volumes → Bool
 is_fresh_volumes v = eqb v.total.0 0 && eqb v.unpriced.0 0
@@ -44,4 +44,4 @@ state_good w m =
 
 -- "without a clock it is the fresh one. Otherwise clock .. as the refusals allow" and the state within its bounds
 unfoldable pub bounded : World → State → Bool
-bounded w m = cond (no_clock m) (is_fresh m) (stamp_good w m.clock && state_good w m)
+bounded w m = cond (no_clock m.clock) (is_fresh m) (stamp_good w m.clock && state_good w m)

@@ -1,5 +1,5 @@
 -- Document 01, "Each accepted call first turns the day."
-use Rattle.std.specs.Prelude.{◌≡◌, cond, List, [], ℕ, eqb}
+use Rattle.std.specs.Prelude.{◌≡◌, cond, List, [], ℕ}
 use Rattle.calendar.specs.declared.Stamp.{Stamp}
 use Rattle.calendar.specs.Stamp.{later_date}
 use Rattle.account.specs.Codes.{no_codes, note_all}
@@ -18,8 +18,8 @@ use Rattle.state.specs.Bounds.{no_clock}
 unfoldable pub turned_to : World → State → Stamp → State
 turned_to w m s =
     with_clock (with_slots (with_valve (with_records m
-    (cond (no_clock m) m.periods (opened m.periods m.clock.date s.date))
-    (cond (no_clock m) m.held (closed m.held m.periods m.clock.date s.date m.account.balance)))
+    (cond (no_clock m.clock) m.periods (opened m.periods m.clock.date s.date))
+    (cond (no_clock m.clock) m.held (closed m.held m.periods m.clock.date s.date m.account.balance)))
     (valve_kept m.valve (some_force w m.slots s.date)))
     (slots_turned w m.slots m.clock.date s.date))
     s
@@ -37,7 +37,7 @@ turn_codes w m s =
 unfoldable pub turn_words : Registers → Stamp → List ℕ → List ℕ
 turn_words r s h =
     cond (later_date r.clock s)
-    (cond (eqb r.clock.date 0) h (closed_words r.periods r.clock.date s.date r.account.balance h)) h
+    (cond (no_clock r.clock) h (closed_words r.periods r.clock.date s.date r.account.balance h)) h
 
 -- the promise of a turn: the registers and the codes that it hands back, and every word that it was lent
 abbrev pub Turned : Registers → List ℕ → Stamp → Stage → List ℕ → Type 0

@@ -21,8 +21,8 @@ impl Volumes {
 
 impl Registers {
     #[tactic(auto, unfolding(crate::specs::State::state_with, crate::specs::Bounds::is_fresh, crate::specs::Bounds::is_fresh_volumes))]
-    fn is_fresh(self, words: &Words) -> bool
-        ensures { result ≡ is_fresh (state_of self words.now) }
+    fn is_fresh(&self, words: &Words) -> bool
+        ensures { result ≡ is_fresh (state_of self.now words.now) }
     {
         (self.clock.second == 0)
             & (self.account.is_fresh()
@@ -35,9 +35,9 @@ impl Registers {
     // Whether the meter is within its bounds, `some` being whether a plan is in force on the clock's date. The held records are
     // tested first, while little else is in the processor's registers.
     #[tactic(auto, unfolding(crate::specs::State::state_with, crate::specs::Bounds::bounded, crate::specs::Bounds::stamp_good, crate::specs::Bounds::state_good, calendar::specs::Stamp::is_stamp, slots::specs::Bounds::idle_good))]
-    pub(crate) fn bounded_on(self, words: &Words, some: bool) -> bool
-        requires { some ≡ some_force real self.slots self.clock.date }
-        ensures { result ≡ bounded real (state_of self words.now) }
+    pub(crate) fn bounded_on(&self, words: &Words, some: bool) -> bool
+        requires { some ≡ some_force real self.now.slots self.now.clock.date }
+        ensures { result ≡ bounded real (state_of self.now words.now) }
     {
         let limits = Limits {
             top: Account::TOP,
@@ -56,8 +56,8 @@ impl Registers {
     }
 
     // Whether the meter is within its bounds: refusal 0 where it is not.
-    pub fn is_bounded(self, words: &Words) -> bool
-        ensures { result ≡ bounded real (state_of self words.now) }
+    pub fn is_bounded(&self, words: &Words) -> bool
+        ensures { result ≡ bounded real (state_of self.now words.now) }
     {
         self.bounded_on(words, self.slots.some_force(self.clock.date))
     }
