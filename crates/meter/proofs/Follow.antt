@@ -5,29 +5,17 @@ use Rattle.answer.specs.declared.Refusal.{Refusal}
 use Rattle.answer.proofs.Tests.{next-first}
 use Rattle.records.specs.Records.{Held}
 use Rattle.records.specs.Words.{rows, held_from, held_of, no_words}
-use Rattle.slots.specs.World.{World, real}
+use Rattle.slots.specs.World.{real}
 use Rattle.state.specs.State.{State, state_with, registers_of, fresh}
 use Rattle.state.specs.Turn.{turn}
-use Rattle.state.specs.Pulsed.{pulsed}
 use Rattle.state.specs.Refusals.{stamp_refusal}
 use Rattle.state.proofs.Admitted.{stamp-passed}
 use Rattle.state.proofs.WordsTurned.{turn-held, turn-long}
 use Rattle.meter.specs.declared.Meter.{Meter}
-use Rattle.meter.specs.Call.{Call, pulses, recharge, load, alarms, command, key, tick, stamp_of}
+use Rattle.meter.specs.Call.{stamp_of}
 use Rattle.meter.specs.Refusals.{own_refusal, refusal_of}
-use Rattle.meter.specs.Effects.{effect_of}
 use Rattle.meter.specs.Machine.{after, left, state_in, fresh_meter, outcome, Follows, FollowsRules}
-
--- no effect touches a held record
-effect-held : (w : World) (m : State) (c : Call) → (effect_of w m c).held ≡ m.held
-unfolding effect_of pulsed
-effect-held w m (pulses p) = refl
-effect-held w m (recharge r) = refl
-effect-held w m (load l bytes) = refl
-effect-held w m (alarms a) = refl
-effect-held w m (command c) = refl
-effect-held w m (key k) = refl
-effect-held w m (tick t) = refl
+use Rattle.meter.proofs.Kept.{effect-stays}
 
 same-state : (m : State) (h : Held) → m.held ≡ h → state_with (registers_of m) h ≡ m
 unfolding state_with registers_of
@@ -46,7 +34,7 @@ follows m c long = go (refusal_of real (state_in m) c) refl
         let r = m.machine.registers in
         let s = stamp_of c in
         let b = (stamp-passed real (state_in m) s (next-first (stamp_refusal real (state_in m) s) (own_refusal real (state_in m) c) e)).0 in
-        let h = effect-held real (turn real (state_in m) s) c ∙ turn-held r m.held s long b in
+        let h = (effect-stays real (turn real (state_in m) s) c).1 ∙ turn-held r m.held s long b in
         record { state = rw e (same-state (after real (state_in m) c) _ h); long = rw e (turn-long r m.held s long) }
     go (Err n) e = record { state = rw e (same-state (state_in m) _ (same-held m)); long = rw e long }
 

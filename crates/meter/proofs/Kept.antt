@@ -13,7 +13,8 @@ use Rattle.answer.proofs.Tests.{never, and_right, need-first, need-both, next-fi
 use Rattle.calendar.specs.declared.Stamp.{Stamp}
 use Rattle.calendar.specs.Stamp.{not_before}
 use Rattle.calendar.proofs.Stamps.{not-before-date}
-use Rattle.account.specs.Account.{alarms_good, is_fresh_account}
+use Rattle.account.specs.declared.Account.{Account}
+use Rattle.account.specs.Account.{alarms_good, account_good, is_fresh_account}
 use Rattle.account.specs.Valve.{is_fresh_valve}
 use Rattle.account.proofs.Kept.{recharged-good, alarmed-good}
 use Rattle.records.specs.Bounds.{is_fresh_periods, is_fresh_held}
@@ -26,7 +27,7 @@ use Rattle.slots.specs.declared.SlotName.{SlotName}
 use Rattle.slots.specs.Load.{slot_named, loaded}
 use Rattle.slots.specs.Bounds.{is_fresh_slots}
 use Rattle.slots.proofs.Kept.{slots-in, slots-out, Room, loads, slots-loaded, none-loaded}
-use Rattle.state.specs.State.{State, fresh, with_slots}
+use Rattle.state.specs.State.{State, fresh, with_account, with_slots}
 use Rattle.state.specs.Bounds.{stamp_good, bounded, is_fresh, is_fresh_volumes}
 use Rattle.state.specs.Turn.{turn}
 use Rattle.state.specs.Refusals.{stamp_refusal, most_pulses, pulse_refusal, key_allowed}
@@ -42,21 +43,21 @@ use Rattle.meter.specs.Machine.{after}
 use Rattle.meter.proofs.Outcomes.{refusal-own}
 
 module _ (w : World) where
-  -- an effect keeps the clock
-  pub effect-clock : (m : State) (c : Call) → (effect_of w m c).clock ≡ m.clock
+  -- an effect keeps the clock, and touches no held record
+  pub effect-stays : (m : State) (c : Call) → ((effect_of w m c).clock ≡ m.clock) × ((effect_of w m c).held ≡ m.held)
   unfolding effect_of pulsed
-  effect-clock m (pulses p) = refl
-  effect-clock m (recharge r) = refl
-  effect-clock m (load l bytes) = refl
-  effect-clock m (alarms a) = refl
-  effect-clock m (command c) = refl
-  effect-clock m (key k) = refl
-  effect-clock m (tick t) = refl
+  effect-stays m (pulses p) = (refl, refl)
+  effect-stays m (recharge r) = (refl, refl)
+  effect-stays m (load l bytes) = (refl, refl)
+  effect-stays m (alarms a) = (refl, refl)
+  effect-stays m (command c) = (refl, refl)
+  effect-stays m (key k) = (refl, refl)
+  effect-stays m (tick t) = (refl, refl)
 
   -- the clock takes the stamp
   pub after-clock : (m : State) (c : Call) → (after w m c).clock ≡ stamp_of c
   unfolding after
-  after-clock m c = effect-clock (turn w m (stamp_of c)) c ∙ turn-clock w m (stamp_of c)
+  after-clock m c = (effect-stays (turn w m (stamp_of c)) c).0 ∙ turn-clock w m (stamp_of c)
 
   -- what an accepted call has passed
   pub record Passed (m : State) (c : Call) : Type 0 where
@@ -99,32 +100,26 @@ module _ (w : World) (L : Laws w) where
             let z = idle-in w m i (none-loaded w L m.slots d k p l f) in (z.0, z.1));
       }
 
+  -- another account
+  account-state : (m : State) (a : Account) → account_good a m.volumes.total.0 ≡ true → Parts w m → Parts w (with_account m a)
+  account-state m a g i = record { volumes = i.volumes; account = g; slots = i.slots; periods = i.periods; held = i.held; idle = i.idle }
+
   -- any call that its own tests let pass
   effect-state : (m : State) (c : Call) → own_refusal w m c ≡ Ok tt → Parts w (turn w m (stamp_of c)) → Parts w (effect_of w (turn w m (stamp_of c)) c)
   unfolding own_refusal effect_of pulse_refusal key_allowed
   effect-state m (pulses p) h i =
       let t : m.volumes.total.0 + p.count.0 ≤ highest_total = leb-true _ _ (need-both Total {a = Ok tt} (need-both {b = leb p.count.0 most_pulses} Pulses h).1).0 in
       pulsed-state w L (turn w m p.stamp) p.count.0 (rw (turn-volumes w m p.stamp) t) i
-  effect-state m (recharge r) h i = record {
-    volumes = i.volumes;
-    account = recharged-good (turn w m r.stamp).account (turn w m r.stamp).volumes.total.0 r.amount.0 r.serial (rw (turn-account w m r.stamp) h) i.account;
-    slots = i.slots;
-    periods = i.periods;
-    held = i.held;
-    idle = i.idle;
-  }
+  effect-state m (recharge r) h i =
+      let t = turn w m r.stamp in
+      account-state t _ (recharged-good t.account t.volumes.total.0 r.amount.0 r.serial (rw (turn-account w m r.stamp) h) i.account) i
   effect-state m (load c bytes) h i =
       let t = turn w m c.stamp in
       let l = loads w t.slots t.clock.date c.slot (read_of bytes) (turn-load w m c.stamp c.slot (read_of bytes) ∙ h) in
       load-state t (slot_named c.slot) (plan_in (read_of bytes)) l.room (L.read-good bytes (rw l.read)) i
-  effect-state m (alarms a) h i = record {
-    volumes = i.volumes;
-    account = alarmed-good (turn w m a.stamp).account (turn w m a.stamp).volumes.total.0 a.one a.two (need-first (alarms_good a.one a.two) Alarms (Ok tt) h) i.account;
-    slots = i.slots;
-    periods = i.periods;
-    held = i.held;
-    idle = i.idle;
-  }
+  effect-state m (alarms a) h i =
+      let t = turn w m a.stamp in
+      account-state t _ (alarmed-good t.account t.volumes.total.0 a.one a.two (need-first (alarms_good a.one a.two) Alarms (Ok tt) h) i.account) i
   effect-state m (command c) h i = record {
     volumes = i.volumes;
     account = i.account;

@@ -17,33 +17,25 @@ use Rattle.meter.specs.declared.Outcome.{Outcome}
 use Rattle.meter.specs.Call.{Call, pulses, recharge, load, alarms, command, key, tick, stamp_of}
 use Rattle.meter.specs.Refusals.{own_refusal, refusal_of}
 use Rattle.meter.specs.Effects.{effect_of, codes_of}
-use Rattle.meter.specs.Machine.{after, codes_after, left, state_in, outcome, Answers, Ran, effect_by}
+use Rattle.meter.specs.Machine.{after, codes_after, left, state_in, outcome, Answers}
+use Rattle.meter.specs.Course.{Ran, effect_by}
 
 -- the refusal of a call whose stamp is admitted is its own, in any world
 pub refusal-own : (w : World) (s : State) (c : Call) → stamp_refusal w s (stamp_of c) ≡ Ok tt → refusal_of w s c ≡ own_refusal w s c
 unfolding refusal_of
 refusal-own w s c h = rw h
 
--- no effect looks at a record
-effect-alone : (m : State) (c : Call) → registers_of (effect_of real (alone (registers_of m)) c) ≡ registers_of (effect_of real m c)
-unfolding effect_of pulsed registers_of state_with
-effect-alone m (pulses p) = refl
-effect-alone m (recharge r) = refl
-effect-alone m (load l bytes) = refl
-effect-alone m (alarms a) = refl
-effect-alone m (command c) = refl
-effect-alone m (key k) = refl
-effect-alone m (tick t) = refl
-
-codes-alone : (m : State) (c : Call) → codes_of real (alone (registers_of m)) c ≡ codes_of real m c
-unfolding codes_of pulse_codes registers_of state_with
-codes-alone m (pulses p) = refl
-codes-alone m (recharge r) = refl
-codes-alone m (load l bytes) = refl
-codes-alone m (alarms a) = refl
-codes-alone m (command c) = refl
-codes-alone m (key k) = refl
-codes-alone m (tick t) = refl
+-- neither effect nor codes look at a record
+call-alone : (m : State) (c : Call) → let r = alone (registers_of m) in
+    (registers_of (effect_of real r c) ≡ registers_of (effect_of real m c)) × (codes_of real r c ≡ codes_of real m c)
+unfolding effect_of codes_of pulsed pulse_codes registers_of state_with
+call-alone m (pulses p) = (refl, refl)
+call-alone m (recharge r) = (refl, refl)
+call-alone m (load l bytes) = (refl, refl)
+call-alone m (alarms a) = (refl, refl)
+call-alone m (command c) = (refl, refl)
+call-alone m (key k) = (refl, refl)
+call-alone m (tick t) = (refl, refl)
 
 module _ (m : Meter) (c : Call) where
   -- refused: machine and words stand as they were
@@ -73,7 +65,8 @@ module _ (m : Meter) (c : Call) where
     accepts {t} {r} {words} own q i =
         let h : refusal_of real (state_in m) c ≡ Ok tt = refusal-own real (state_in m) c passed ∙ own in
         let s = turn real (state_in m) (stamp_of c) in
-        rw (i, q.0, q.1, q.2, h, effect-alone s c, codes-alone s c, note-append)
+        let a = call-alone s c in
+        rw (i, q.0, q.1, q.2, h, a.0, a.1, note-append)
 
   -- by the course of the call, where its own test tells its own refusals, and its effect is that of the call
   pub answered : {T : Type 0} (own : Result T Refusal → Type 0) (effect : Stage → T → Outcome → Type 0) (r : Result Outcome Refusal) {words : List ℕ} →

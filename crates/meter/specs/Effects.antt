@@ -1,5 +1,7 @@
 -- Document 01, "The billing machine": the effect of each call on a meter whose day is turned, and its codes.
 use Rattle.std.specs.Prelude.{true, List, [], ◌∷◌, ℕ, eqb}
+use Rattle.account.specs.declared.Event.TheVariants.{Recharged, Set}
+use Rattle.account.specs.Codes.{event_code}
 use Rattle.account.specs.Valve.{valve_set, commanded, command_codes, key_codes}
 use Rattle.account.specs.Account.{recharged, alarmed}
 use Rattle.record.specs.Record.{read_of, plan_in}
@@ -21,9 +23,9 @@ effect_of w m (tick t) = m
 -- "code 21 (Table F.1)", "code 27", "code 2B", "code 11"
 unfoldable pub codes_of : World → State → Call → List ℕ
 codes_of w m (pulses p) = pulse_codes w m p.count.0
-codes_of w m (recharge r) = 0x21 ∷ []
-codes_of w m (load l bytes) = 0x27 ∷ []
-codes_of w m (alarms a) = 0x27 ∷ []
+codes_of w m (recharge r) = event_code Recharged ∷ []
+codes_of w m (load l bytes) = event_code Set ∷ []
+codes_of w m (alarms a) = event_code Set ∷ []
 codes_of w m (command c) = command_codes m.valve (eqb c.code 1)
 codes_of w m (key k) = key_codes m.valve
 codes_of w m (tick t) = []

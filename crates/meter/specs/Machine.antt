@@ -1,18 +1,14 @@
 -- Demand 1: "The answer to every call, with any argument and any state of the meter, is either the new meter with its event codes or
 -- one refusal number .., and a refusal changes nothing".
-use Rattle.std.specs.Prelude.{◌≡◌, List, [], ◌++◌, ℕ, ◌≤◌, length, ⊤, Result, Ok, Err, MatchResult}
-use Rattle.calendar.specs.declared.Stamp.{Stamp}
+use Rattle.std.specs.Prelude.{◌≡◌, List, [], ◌++◌, ℕ, ◌≤◌, length, ⊤, Result, Ok, Err}
 use Rattle.answer.specs.declared.Refusal.{Refusal}
 use Rattle.answer.specs.Answer.{next}
 use Rattle.account.specs.declared.Codes.{Codes}
 use Rattle.account.specs.Codes.{no_codes, note_all}
 use Rattle.slots.specs.World.{World, real}
 use Rattle.records.specs.Words.{word_count, no_words}
-use Rattle.state.specs.declared.Registers.{Registers}
-use Rattle.state.specs.declared.Stage.{Stage}
-use Rattle.state.specs.State.{State, state_of, alone, registers_of, fresh}
-use Rattle.state.specs.Turn.{turn, turn_codes, turn_words, Turned}
-use Rattle.state.specs.Refusals.{stamp_refusal}
+use Rattle.state.specs.State.{State, state_of, registers_of, fresh}
+use Rattle.state.specs.Turn.{turn, turn_codes, turn_words}
 use Rattle.meter.specs.declared.Machine.{Machine}
 use Rattle.meter.specs.declared.Meter.{Meter}
 use Rattle.meter.specs.declared.Outcome.{Outcome}
@@ -100,19 +96,6 @@ left_by was r words = record { meter = meter_of (machine_by was r) words; done =
 abbrev pub Answers : Meter → Call → Result Outcome Refusal → List ℕ → Type 0
 Answers m c r words = left_by m.machine r words ≡ outcome m c
 
--- the course of a call: `own` holds of what its own test may tell, `effect` of a stage, of what was
--- told, and of what the call may make of the two
--- its stamp admitted, x told by its own test, and the day turned
-pub record Vetted {T : Type 0} (m : Meter) (s : Stamp) (own : Result T Refusal → Type 0) (x : T) (t : Stage) (words : List ℕ) : Type 0 where
-  pub stamp : stamp_refusal real (state_in m) s ≡ Ok tt
-  pub told : own (Ok x)
-  pub turned : Turned m.machine.registers m.held s t words
-
--- vetted, and its effect; or refused by its stamp or by its own test, and the words stand
-abbrev pub Ran : {T : Type 0} → Meter → Stamp → (Result T Refusal → Type 0) → (Stage → T → Outcome → Type 0) → Result Outcome Refusal → List ℕ → Type 0
-Ran {T} m s own effect (Ok r) words = (x : T) × (t : Stage) × Vetted m s own x t words × effect t x r
-Ran m s own effect (Err n) words = (words ≡ m.held) × MatchResult (stamp_refusal real (state_in m) s) (λ _. own (Err n)) (λ i. n ≡ i)
-
 -- the promise says what the rules say: the state that a call leaves is document 01's, and there are as many words as before
 pub record Follows (m : Meter) (c : Call) : Type 0 where
   pub state : state_in (outcome m c).meter ≡ left real (state_in m) c
@@ -120,11 +103,3 @@ pub record Follows (m : Meter) (c : Call) : Type 0 where
 
 abbrev pub FollowsRules : Type 0
 FollowsRules = (m : Meter) (c : Call) → length m.held ≡ word_count → Follows m c
-
--- accepted with new registers and its codes
-abbrev pub accepted_of : Registers → Codes → Outcome
-accepted_of r k = record { machine = record { registers = r }; codes = k }
-
--- accepted with the effect of a call on registers whose day is turned; no effect looks at a record
-abbrev pub effect_by : Stage → Call → Outcome
-effect_by t c = accepted_of (registers_of (effect_of real (alone t.registers) c)) (note_all t.codes (codes_of real (alone t.registers) c))

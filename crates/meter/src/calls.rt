@@ -1,9 +1,8 @@
 // The seven calls. The course of six stands once, in `run`: each gives it its own refusals and its
 // effect. Document 01 names the form in which a call takes the admitted date: by `let .. else`.
 // Closures and no trait for a call: an `impl` of its stamp, refusals and effect is longer.
-// Pulses have a course of their own, for speed: by `run` a pulse call took 1,766 instructions where
-// it takes 1,288, and 3,736 bytes of stack for 2,936. So no day turns on the clock's own date, and
-// the plan in force is then the one that was looked up before admission.
+// Pulses have a course of their own, for speed and stack (docs/BENCHMARKS.md): no day turns on the
+// clock's own date, and the plan in force is then the one that was looked up before admission.
 ghost use Rattle.std.specs.Prelude.{◌≡◌, List, ℕ, Ok};
 ghost use Rattle.answer.specs.Answer.{next};
 ghost use Rattle.record.specs.Record.{read_of, plan_in};
@@ -13,7 +12,8 @@ ghost use Rattle.state.specs.declared.Stage.{Stage};
 ghost use Rattle.state.specs.State.{state_of};
 ghost use Rattle.state.specs.Refusals.{stamp_refusal};
 ghost use Rattle.meter.specs.Call.{pulses as pulses_call, recharge as recharge_call, load as load_call, alarms as alarms_call, command as command_call, key as key_call, tick as tick_call, call_of};
-ghost use Rattle.meter.specs.Machine.{meter_of, Vetted, Ran, Answers};
+ghost use Rattle.meter.specs.Machine.{meter_of, Answers};
+ghost use Rattle.meter.specs.Course.{Vetted, Ran};
 
 use crate::{Alarms, Call, Command, Key, Load, Machine, Outcome, Pulses, Recharge, Tick, effects};
 use account::{Codes, Event};

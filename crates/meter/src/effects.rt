@@ -2,12 +2,13 @@
 // tick, which has none. `noted` serves the two that change the account; one function for all would be handed the new registers and
 // the codes, and only join them.
 ghost use Rattle.std.specs.Prelude.{◌≡◌, true, [], ◌∷◌};
+ghost use Rattle.account.specs.declared.Event.TheVariants.{Set};
 ghost use Rattle.account.specs.Codes.{event_code, note_all};
 ghost use Rattle.slots.specs.Load.{loaded};
 ghost use Rattle.state.specs.State.{alone, registers_of, with_account, with_slots, with_valve};
 ghost use Rattle.account.specs.Valve.{valve_set, key_codes};
 ghost use Rattle.meter.specs.Call.{command};
-ghost use Rattle.meter.specs.Machine.{accepted_of, effect_by};
+ghost use Rattle.meter.specs.Course.{accepted_of, effect_by};
 
 use crate::{Command, Outcome};
 use account::{Account, Event};
@@ -28,7 +29,7 @@ pub(crate) fn noted(t: Stage, account: Account, event: Event) -> Outcome
 
 #[tactic(auto, unfolding(account::specs::Codes::note_all, state::specs::State::registers_of, state::specs::State::state_with))]
 pub(crate) fn loaded(t: Stage, slot: SlotName, plan: Plan) -> Outcome
-    ensures { result ≡ accepted_of (registers_of (with_slots (alone t.registers) (loaded t.registers.slots slot plan))) (note_all t.codes (0x27 ∷ [])) }
+    ensures { result ≡ accepted_of (registers_of (with_slots (alone t.registers) (loaded t.registers.slots slot plan))) (note_all t.codes (event_code Set ∷ [])) }
 {
     let mut next = t;
     next.registers.slots = t.registers.slots.loaded(slot, plan);

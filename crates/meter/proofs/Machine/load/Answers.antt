@@ -3,7 +3,8 @@ use Rattle.std.specs.Prelude.{⊤, Result, Ok, Err}
 use Rattle.answer.specs.declared.Refusal.{Refusal}
 use Rattle.answer.specs.Answer.{next}
 use Rattle.answer.proofs.Tests.{next-first, next-rest}
-use Rattle.account.specs.Codes.{note_all}
+use Rattle.account.specs.declared.Event.TheVariants.{Set}
+use Rattle.account.specs.Codes.{event_code, note_all}
 use Rattle.plan.specs.declared.Plan.{Plan}
 use Rattle.record.specs.Record.{read_of, plan_in}
 use Rattle.slots.specs.declared.SlotName.{SlotName}
@@ -13,7 +14,8 @@ use Rattle.state.specs.State.{state_with, alone, registers_of, with_slots}
 use Rattle.meter.specs.Call.{load}
 use Rattle.meter.specs.Refusals.{own_refusal}
 use Rattle.meter.specs.Effects.{effect_of, codes_of}
-use Rattle.meter.specs.Machine.{meter_of, accepted_of}
+use Rattle.meter.specs.Machine.{meter_of}
+use Rattle.meter.specs.Course.{accepted_of}
 use Rattle.meter.proofs.Outcomes.{answered}
 use Rattle.meter.proofs.Machine.load.Goals as goal
 
@@ -33,5 +35,5 @@ returns c =
     let i : Ok x ≡ next a (Ok y) = search rules in
     let k : Ok y ≡ Ok x = next-rest a (Ok y) (sym i) in
     let v : x ≡ y = cc in
-    let f : o ≡ accepted_of (registers_of (with_slots (alone t.registers) (loaded t.registers.slots x.0 x.1))) (note_all t.codes (0x27 ∷ [])) = search rules in
+    let f : o ≡ accepted_of (registers_of (with_slots (alone t.registers) (loaded t.registers.slots x.0 x.1))) (note_all t.codes (event_code Set ∷ [])) = search rules in
     f ∙ rw v)

@@ -23,7 +23,8 @@ use Rattle.meter.specs.declared.Meter.{Meter}
 use Rattle.meter.specs.Call.{pulses}
 use Rattle.meter.specs.Refusals.{own_refusal}
 use Rattle.meter.specs.Effects.{effect_of, codes_of}
-use Rattle.meter.specs.Machine.{meter_of, state_in, accepted_of}
+use Rattle.meter.specs.Machine.{meter_of, state_in}
+use Rattle.meter.specs.Course.{accepted_of}
 use Rattle.meter.proofs.Outcomes.{not-admitted, denied, accepts}
 use Rattle.meter.proofs.Machine.pulses.Goals as goal
 use Rattle.meter.proofs.Machine.pulses.Goals.{then-self-date, else-self-date}
@@ -80,7 +81,7 @@ pub turn-t-requires : goal.turn-t-requires
 unfolding state_with
 turn-t-requires c =
     let a = admitted (state_in (meter_of c.args.self c.args.words.now)) c.args.p.stamp _ (sym (sym c.in-Ok.is ∙ c.admit-admitted.ensures)) in
-    record { bounds = a.bounds; good = a.stamp; its_date = a.date }
+    record { bounds = a.bounds; its_date = a.date }
 
 pub pulsed-requires : goal.pulsed-requires
 unfolding registers_of state_with

@@ -6,4 +6,4 @@ use Rattle.meter.proofs.Machine.run.Goals as goal
 pub turn-requires : goal.turn-requires
 turn-requires g c =
     let a = admitted (state_in (meter_of c.args.self.now c.args.words.now)) c.args.stamp _ (sym (sym c.in-Ok.is ∙ c.admit-admitted.ensures)) in
-    record { bounds = a.bounds; good = a.stamp; its_date = a.date }
+    record { bounds = a.bounds; its_date = a.date }
