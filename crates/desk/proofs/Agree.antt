@@ -8,6 +8,7 @@ use Rattle.state.specs.State.{State, state_with, fresh}
 use Rattle.meter.specs.Call.{Call}
 use Rattle.meter.specs.Machine.{state_in, outcome, fresh_meter}
 use Rattle.meter.proofs.Follow.{follows, fresh_in}
+use Rattle.records.specs.Words.{word_count}
 use Rattle.records.proofs.AfterTurn.{none-long}
 use Rattle.ledger.specs.Lists.{taken, run}
 use Rattle.ledger.specs.Answers.{meter_left}
@@ -25,7 +26,7 @@ meter-left d [] = refl
 meter-left d (c ∷ cs) = meter-left (played d c).desk cs
 
 -- the ledger is fed along the list
-book-run : (d : Desk) (cs : List Call) → length d.meter.held ≡ 548 → (desk_of d cs).book ≡ book_of_run (state_in d.meter) d.book cs
+book-run : (d : Desk) (cs : List Call) → length d.meter.held ≡ word_count → (desk_of d cs).book ≡ book_of_run (state_in d.meter) d.book cs
 unfolding desk_of book_of_run played
 book-run d [] long = refl
 book-run d (c ∷ cs) long =
