@@ -3,7 +3,8 @@
 
   bench/core.py        in the repository's root, after `rt lib` in crates/host; needs gcc, rustc, valgrind and size
 
-Instructions a call are counted by callgrind: those of 2,000 calls less those of 1,000. Times are those of bench/core.rs.
+Instructions a call are counted by callgrind: those of 2,000 calls less those of 1,000. Times are those of bench/core.rs, the least over programs
+that differ in the order alone in which the linker puts their functions: rustc's own linker, LLD, takes the order.
 Stack is what bench/stack.c sees, linked so that no call looks memcpy up. Code is the text of an executable with every function of the header, less that of one
 with none.
 """
@@ -23,6 +24,7 @@ ROWS = [
     ('display-4000', 'display query, 62 and 120 records'),
 ]
 ROOM, PAGE = 'target/bench', 'docs/BENCHMARKS.md'
+ORDERS = 8
 RECORDS = os.path.join(ROOM, 'records-10000')
 
 
@@ -57,22 +59,32 @@ def code_size():
     return sizes[0] - sizes[1]
 
 
+# Nanoseconds of each row, the library's and plain Rust's: of each side the least over the orders of functions.
+def times():
+    least = {}
+    for order in range(ORDERS):
+        run('rustc', '--edition', '2021', '-O', '-o', ROOM + '/core', 'bench/core.rs', '-L', 'crates/host/out', '-l', 'static=host',
+            '-C', 'link-arg=-Wl,--shuffle-sections=.text*=%d' % (order + 1))
+        for line in run(ROOM + '/core', RECORDS).splitlines():
+            name, *seen = line.split()
+            seen = [float(t) for t in seen]
+            least[name] = [min(pair) for pair in zip(seen, least.get(name, seen))]
+            print('order %d of %d: %s' % (order + 1, ORDERS, line), flush=True)
+    return least
+
+
 def main():
     os.makedirs(ROOM, exist_ok=True)
     run('sh', '-c', 'cd crates/host && rt lib')
-    run('rustc', '--edition', '2021', '-O', '-o', ROOM + '/core', 'bench/core.rs', '-L', 'crates/host/out', '-l', 'static=host')
     run('gcc', '-std=c11', '-O2', '-Wall', '-Wextra', '-Iinclude', 'bench/stack.c', 'crates/host/out/libhost.a', '-pthread',
         '-Wl,-z,now', '-o', ROOM + '/stack')
     if not os.path.exists(RECORDS):
         made = subprocess.run(['python3', 'tests/records.py', 'many', '10000'], capture_output=True, check=True).stdout
         open(RECORDS, 'wb').write(made)
-    times = {}
-    for line in run(ROOM + '/core', RECORDS).splitlines():
-        name, ours, plain = line.split()
-        times[name] = (float(ours), float(plain))
+    taken = times()
     lines = ['| What | Library, ns | Plain Rust, ns | Ratio | Instructions, library | Plain Rust | Ratio |', '|---|---|---|---|---|---|---|']
     for name, what in ROWS:
-        ours, plain = times[name]
+        ours, plain = taken[name]
         a, b = ((instructions(side, 2000) - instructions(side, 1000)) / 1000 for side in (name, 'plain-' + name))
         lines.append('| %s | %.0f | %.0f | %.2f | %s | %s | %.2f |' % (what, ours, plain, ours / plain, f'{a:,.0f}', f'{b:,.0f}', a / b))
         print(lines[-1], flush=True)

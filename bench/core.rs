@@ -133,7 +133,7 @@ fn proved_read(s: &[u8]) -> u32 {
 }
 
 fn proved_write(p: &library::Plan, out: &mut [u8]) -> u8 {
-    1 - library::plan_write(*p, out).accepted
+    1 - library::plan_write(p, out).accepted
 }
 
 // The plans of the records that are not refused, for each side.

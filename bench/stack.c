@@ -91,7 +91,7 @@ static struct harpdapple_plan plan;
 
 static void *plan_write(void *p) {
     uint8_t out[HARPDAPPLE_RECORD_BYTES];
-    harpdapple_plan_write(plan, out, sizeof out);
+    harpdapple_plan_write(&plan, out, sizeof out);
     return p;
 }
 

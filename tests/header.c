@@ -175,9 +175,9 @@ static void plans(void)
 
     uint8_t out[HARPDAPPLE_RECORD_BYTES + 1];
     memset(out, 0xEE, sizeof out);
-    SAME(harpdapple_plan_write(reply.plan, out, 65).refusal, HARPDAPPLE_REFUSED_BUFFER);
+    SAME(harpdapple_plan_write(&reply.plan, out, 65).refusal, HARPDAPPLE_REFUSED_BUFFER);
     SAME(out[0], 0xEE);
-    SAME(harpdapple_plan_write(reply.plan, out, HARPDAPPLE_RECORD_BYTES).accepted, true);
+    SAME(harpdapple_plan_write(&reply.plan, out, HARPDAPPLE_RECORD_BYTES).accepted, true);
     SAME(memcmp(out, plan_2020, sizeof plan_2020), 0);
     SAME(out[HARPDAPPLE_RECORD_BYTES], 0xEE);
 

@@ -260,7 +260,7 @@ extern "C" {
     fn harpdapple_heavy(meter: *const Meter, volume: u32) -> RecordReply;
     fn harpdapple_sum(days: *const Record, count: usize) -> SumReply;
     fn harpdapple_plan_read(bytes: *const u8, length: usize) -> PlanReply;
-    fn harpdapple_plan_write(plan: Plan, out: *mut u8, length: usize) -> Verdict;
+    fn harpdapple_plan_write(plan: *const Plan, out: *mut u8, length: usize) -> Verdict;
     fn harpdapple_record_in_force(
         first: *const u8,
         first_length: usize,
@@ -361,7 +361,7 @@ pub fn plan_read(bytes: &[u8]) -> PlanReply {
     unsafe { harpdapple_plan_read(bytes.as_ptr(), bytes.len()) }
 }
 
-pub fn plan_write(plan: Plan, out: &mut [u8]) -> Verdict {
+pub fn plan_write(plan: &Plan, out: &mut [u8]) -> Verdict {
     unsafe { harpdapple_plan_write(plan, out.as_mut_ptr(), out.len()) }
 }
 

@@ -182,7 +182,7 @@ pub fn read(r: &mut Random, tally: &mut Tally) -> Result<(), Difference> {
 /// Demand 2's two ways round, in the library alone: read and written, then read again.
 fn round(reply: library::PlanReply, plan: &Plan, bytes: &[u8]) -> Result<(), Difference> {
     let mut out = vec![0xEE; RECORD_BYTES];
-    library::plan_write(reply.plan, &mut out);
+    library::plan_write(&reply.plan, &mut out);
     same("a plan read, written and read again", &library::plan_read(&out), &reply)?;
     let mut wanted = bytes.to_vec();
     records::unread(plan).into_iter().for_each(|place| wanted[place] = 0);
@@ -201,7 +201,7 @@ pub fn write(r: &mut Random, tally: &mut Tally) -> Result<(), Difference> {
     let before: Vec<u8> = (0..length + 32).map(|_| r.next() as u8).collect();
     let answer = if length != RECORD_BYTES { Err(26) } else { Plan::of_host(&host) };
     let mut after = before.clone();
-    let reply = library::plan_write(host, &mut after[16..16 + length]);
+    let reply = library::plan_write(&host, &mut after[16..16 + length]);
     let mut wanted = before.clone();
     let mut verdict = library::Verdict { accepted: 1, refusal: 0 };
     match answer {

@@ -1,10 +1,13 @@
 -- How the flat structs of the C library hold document 01's answers: `accepted`, else the refusal's number; what is not answered is 0.
-use Rattle.std.specs.Prelude.{◌≡◌, true, false, ℕ, pos, Result, Ok, Err}
+use Rattle.std.specs.Prelude.{◌≡◌, ℕ, pos, ⊤, Result, Ok, Err}
 use Rattle.units.specs.declared.Shown.{Shown}
 use Rattle.units.specs.declared.VolumeSum.{VolumeSum}
+use Rattle.units.specs.Volume.{price}
+use Rattle.units.specs.Money.{money}
+use Rattle.units.specs.Display.{shown}
 use Rattle.answer.specs.declared.Refusal.{Refusal}
 use Rattle.answer.specs.declared.Verdict.{Verdict}
-use Rattle.answer.specs.Answer.{number_of}
+use Rattle.answer.specs.Answer.{verdict_of}
 use Rattle.plan.specs.declared.Plan.{Plan}
 use Rattle.plan.specs.declared.StepPrice.{StepPrice}
 use Rattle.plan.specs.Plan.{no_plan}
@@ -12,11 +15,11 @@ use Rattle.record.specs.declared.Which.{Which}
 use Rattle.record.specs.declared.Which.TheVariants.{First, Second}
 use Rattle.records.specs.declared.Record.{Record}
 use Rattle.records.specs.declared.PlacedRecord.{PlacedRecord}
-use Rattle.records.specs.Records.{no_record}
+use Rattle.records.specs.Queries.{no_place}
 use Rattle.account.specs.declared.Codes.{Codes}
 use Rattle.account.specs.Codes.{no_codes}
 use Rattle.state.specs.State.{State}
-use Rattle.query.specs.Queries.{HeavyAnswer}
+use Rattle.query.specs.Queries.{HeavyAnswer, volume_of}
 use Rattle.host.specs.declared.Reply.{Reply}
 use Rattle.host.specs.declared.StepReply.{StepReply}
 use Rattle.host.specs.declared.DisplayReply.{DisplayReply}
@@ -27,10 +30,10 @@ use Rattle.host.specs.declared.PartReply.{PartReply}
 
 -- "accepted", and refused by a number
 abbrev pub accepting : Verdict
-accepting = record { accepted = true; refusal = 0 }
+accepting = verdict_of {T = ⊤} (Ok tt)
 
 abbrev pub refusing : Refusal → Verdict
-refusing n = record { accepted = false; refusal = number_of n }
+refusing n = verdict_of {T = ⊤} (Err n)
 
 unfoldable pub reply_of : Result Codes Refusal → Reply
 reply_of (Ok k) = record { verdict = accepting; codes = k }
@@ -38,16 +41,16 @@ reply_of (Err n) = record { verdict = refusing n; codes = no_codes }
 
 unfoldable pub step_reply_of : Result StepPrice Refusal → StepReply
 step_reply_of (Ok s) = record { verdict = accepting; step = s }
-step_reply_of (Err n) = record { verdict = refusing n; step = record { number = 0; price = record { 0 = 0 } } }
+step_reply_of (Err n) = record { verdict = refusing n; step = record { number = 0; price = price 0 } }
 
 unfoldable pub display_reply_of : Result Shown Refusal → DisplayReply
 display_reply_of (Ok s) = record { verdict = accepting; shown = s }
-display_reply_of (Err n) = record { verdict = refusing n; shown = record { 0 = pos 0 } }
+display_reply_of (Err n) = record { verdict = refusing n; shown = shown (money (pos 0)) }
 
 -- a record with its place, and none
 unfoldable pub placed_reply_of : Result PlacedRecord Refusal → RecordReply
 placed_reply_of (Ok d) = record { verdict = accepting; found = d }
-placed_reply_of (Err n) = record { verdict = refusing n; found = record { place = 0; held = no_record } }
+placed_reply_of (Err n) = record { verdict = refusing n; found = no_place }
 
 -- record k has the place k
 abbrev pub placed_at : ℕ → Result Record Refusal → Result PlacedRecord Refusal
@@ -65,7 +68,7 @@ pub record HeavyReplied (m : State) (v : ℕ) (r : RecordReply) : Type 0 where
 
 unfoldable pub sum_reply_of : Result VolumeSum Refusal → SumReply
 sum_reply_of (Ok s) = record { verdict = accepting; volume = s }
-sum_reply_of (Err n) = record { verdict = refusing n; volume = record { 0 = 0 } }
+sum_reply_of (Err n) = record { verdict = refusing n; volume = volume_of 0 }
 
 unfoldable pub plan_reply_of : Result Plan Refusal → PlanReply
 plan_reply_of (Ok p) = record { verdict = accepting; plan = p }

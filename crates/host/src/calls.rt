@@ -1,7 +1,7 @@
 // The seven calls, on a meter that the host keeps. C calls each by its name, so each has its function.
 // A function's two lines stand in each. One function over `meter::Call` has the seven calls in one
-// frame: 3,976 bytes of stack where these take 2,936, and 48,506 bytes of code for 33,850. One over
-// a closure has to promise what the closure gives and how it leaves the meter: no plainer.
+// frame, which takes more stack and code. One over a closure has to promise what the closure gives
+// and how it leaves the meter: no plainer.
 ghost use Rattle.std.specs.Prelude.{◌≡◌};
 ghost use Rattle.meter.specs.Call.{pulses as pulses_call, recharge as recharge_call, load as load_call, alarms as alarms_call, command as command_call, key as key_call, tick as tick_call};
 ghost use Rattle.meter.specs.Machine.{fresh_meter, outcome};

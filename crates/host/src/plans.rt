@@ -17,10 +17,10 @@ pub extern "C" fn harpdapple_plan_read(bytes: &[u8]) -> PlanReply
 }
 
 #[unsafe(no_mangle)]
-pub extern "C" fn harpdapple_plan_write(plan: Plan, out: &mut [u8]) -> Verdict
-    ensures { (result ≡ verdict_of (write_answer plan out.old)) × (out.new ≡ written plan out.old) }
+pub extern "C" fn harpdapple_plan_write(plan: &Plan, out: &mut [u8]) -> Verdict
+    ensures { (result ≡ verdict_of (write_answer plan.now out.old)) × (out.new ≡ written plan.now out.old) }
 {
-    Verdict::from(record::write(plan, out))
+    Verdict::from(record::write(*plan, out))
 }
 
 #[unsafe(no_mangle)]
