@@ -1,22 +1,22 @@
 # Builds the C library and puts it in place.
 #
-#   make                       the archive, crates/host/out/libhost.a
+#   make                       the archive, crates/harpdapple/out/libharpdapple.a
 #   make install PREFIX=DIR    header, archive and pkg-config file below DIR, /usr/local if not given
 #   make uninstall PREFIX=DIR  takes them away
 #
 # DESTDIR goes before PREFIX where a package is built.
 PREFIX = /usr/local
 DESTDIR =
-ARCHIVE = crates/host/out/libhost.a
+ARCHIVE = crates/harpdapple/out/libharpdapple.a
 VERSION := $(shell sed -n 's/^.define HARPDAPPLE_VERSION "\(.*\)"/\1/p' include/harpdapple.h)
 
 .PHONY: all install uninstall
 
 all:
-	cd crates/host && rt lib
+	cd crates/harpdapple && rt lib
 
 $(ARCHIVE):
-	cd crates/host && rt lib
+	cd crates/harpdapple && rt lib
 
 install: $(ARCHIVE)
 	install -d "$(DESTDIR)$(PREFIX)/include" "$(DESTDIR)$(PREFIX)/lib/pkgconfig"
@@ -25,5 +25,5 @@ install: $(ARCHIVE)
 	sed -e 's|@PREFIX@|$(PREFIX)|' -e 's|@VERSION@|$(VERSION)|' harpdapple.pc.in >"$(DESTDIR)$(PREFIX)/lib/pkgconfig/harpdapple.pc"
 
 uninstall:
-	rm -f "$(DESTDIR)$(PREFIX)/include/harpdapple.h" "$(DESTDIR)$(PREFIX)/lib/libhost.a"
+	rm -f "$(DESTDIR)$(PREFIX)/include/harpdapple.h" "$(DESTDIR)$(PREFIX)/lib/libharpdapple.a"
 	rm -f "$(DESTDIR)$(PREFIX)/lib/pkgconfig/harpdapple.pc"

@@ -1,7 +1,7 @@
 #!/usr/bin/env python3
 """Measures the C library beside plain Rust and writes the table of docs/BENCHMARKS.md.
 
-  bench/core.py        in the repository's root, after `rt lib` in crates/host; needs gcc, rustc, valgrind and size
+  bench/core.py        in the repository's root, after `rt lib` in crates/harpdapple; needs gcc, rustc, valgrind and size
 
 Instructions a call are counted by callgrind: those of 2,000 calls less those of 1,000. Times are those of bench/core.rs, the least over programs
 that differ in the order alone in which the linker puts their functions: rustc's own linker, LLD, takes the order.
@@ -23,9 +23,9 @@ ROWS = [
     ('display-62', 'display query, 62 day and 2 month records'),
     ('display-4000', 'display query, 62 and 120 records'),
 ]
-ROOM, PAGE = 'target/bench', 'docs/BENCHMARKS.md'
+SCRATCH, PAGE = 'target/bench', 'docs/BENCHMARKS.md'
 ORDERS = 8
-RECORDS = os.path.join(ROOM, 'records-10000')
+RECORDS = os.path.join(SCRATCH, 'records-10000')
 
 
 def run(*words):
@@ -36,7 +36,7 @@ def run(*words):
 
 
 def instructions(name, calls):
-    said = run('valgrind', '--tool=callgrind', '--callgrind-out-file=/dev/null', ROOM + '/core', RECORDS, name, str(calls))
+    said = run('valgrind', '--tool=callgrind', '--callgrind-out-file=/dev/null', SCRATCH + '/core', RECORDS, name, str(calls))
     return int(re.search(r'Collected : (\d+)', said).group(1))
 
 
@@ -49,12 +49,12 @@ def code_size():
     names = re.findall(r'^(?!static)\w[\w *]*\b(harpdapple_\w+)\(', header, re.M)
     sizes = []
     for name, used in (('all', names), ('none', [])):
-        source = '%s/%s.c' % (ROOM, name)
+        source = '%s/%s.c' % (SCRATCH, name)
         with open(source, 'w') as out:
             out.write(''.join('void %s(void);\n' % n for n in used))
             out.write('void (*const table[])(void) = {%s};\n' % ', '.join(used + ['0']))
             out.write('int main(int n, char **words) { (void)words; if (n > 100) table[n](); return 0; }\n')
-        run('gcc', '-O2', '-Wl,--gc-sections', source, 'crates/host/out/libhost.a', '-o', source[:-2])
+        run('gcc', '-O2', '-Wl,--gc-sections', source, 'crates/harpdapple/out/libharpdapple.a', '-o', source[:-2])
         sizes.append(text_size(source[:-2]))
     return sizes[0] - sizes[1]
 
@@ -63,9 +63,9 @@ def code_size():
 def times():
     least = {}
     for order in range(ORDERS):
-        run('rustc', '--edition', '2021', '-O', '-o', ROOM + '/core', 'bench/core.rs', '-L', 'crates/host/out', '-l', 'static=host',
+        run('rustc', '--edition', '2021', '-O', '-o', SCRATCH + '/core', 'bench/core.rs', '-L', 'crates/harpdapple/out', '-l', 'static=harpdapple',
             '-C', 'link-arg=-Wl,--shuffle-sections=.text*=%d' % (order + 1))
-        for line in run(ROOM + '/core', RECORDS).splitlines():
+        for line in run(SCRATCH + '/core', RECORDS).splitlines():
             name, *seen = line.split()
             seen = [float(t) for t in seen]
             least[name] = [min(pair) for pair in zip(seen, least.get(name, seen))]
@@ -74,10 +74,10 @@ def times():
 
 
 def main():
-    os.makedirs(ROOM, exist_ok=True)
-    run('sh', '-c', 'cd crates/host && rt lib')
-    run('gcc', '-std=c11', '-O2', '-Wall', '-Wextra', '-Iinclude', 'bench/stack.c', 'crates/host/out/libhost.a', '-pthread',
-        '-Wl,-z,now', '-o', ROOM + '/stack')
+    os.makedirs(SCRATCH, exist_ok=True)
+    run('sh', '-c', 'cd crates/harpdapple && rt lib')
+    run('gcc', '-std=c11', '-O2', '-Wall', '-Wextra', '-Iinclude', 'bench/stack.c', 'crates/harpdapple/out/libharpdapple.a', '-pthread',
+        '-Wl,-z,now', '-o', SCRATCH + '/stack')
     if not os.path.exists(RECORDS):
         made = subprocess.run(['python3', 'tests/records.py', 'many', '10000'], capture_output=True, check=True).stdout
         open(RECORDS, 'wb').write(made)
@@ -89,7 +89,7 @@ def main():
         lines.append('| %s | %.0f | %.0f | %.2f | %s | %s | %.2f |' % (what, ours, plain, ours / plain, f'{a:,.0f}', f'{b:,.0f}', a / b))
         print(lines[-1], flush=True)
     lines += ['', '| Call | Bytes of stack |', '|---|---|']
-    *calls, (_, meter) = (line.rsplit(None, 1) for line in run(ROOM + '/stack').splitlines())
+    *calls, (_, meter) = (line.rsplit(None, 1) for line in run(SCRATCH + '/stack').splitlines())
     for what, size in calls:
         lines.append('| %s | %s |' % (what, f'{int(size):,}'))
     lines += ['', 'Code of all functions of the header: %s bytes. A meter: %s bytes.' % (f'{code_size():,}', f'{int(meter):,}')]

@@ -1,4 +1,4 @@
-// Times the C library (crates/host/out/libhost.a) beside the same work in plain Rust, both on a meter where it lies:
+// Times the C library (crates/harpdapple/out/libharpdapple.a) beside the same work in plain Rust, both on a meter where it lies:
 //
 //   core RECORDS          a line for each row: its name, nanoseconds of the library, of plain Rust
 //   core RECORDS NAME N   NAME once with N calls, for a count of instructions
@@ -181,7 +181,7 @@ fn run(name: &str, proved: bool, records: &[u8], n: u32) -> u64 {
         ("write", _) => write_all(proved, records, n),
         ("pulses", true) => proved_pulsed(turns, n).volumes.total as u64,
         ("pulses", false) => pulsed(turns, n).total as u64,
-        ("turns", true) => proved_aged(n).journal.days.count as u64,
+        ("turns", true) => proved_aged(n).records.days.count as u64,
         ("turns", false) => aged(n).day_records() as u64,
         ("display", true) => proved_display(turns, n),
         ("display", false) => plain_display(turns, n),

@@ -77,7 +77,7 @@ fn fields(s: &[u8]) -> Result<Plan, u8> {
 }
 
 // Refusals 5 to 7.
-pub fn vet(p: &Plan) -> Result<(), u8> {
+pub fn plan_refusal(p: &Plan) -> Result<(), u8> {
     let dates = is_date(p.start) && is_date(p.end);
     let (more_dates, more_days) = match (p.word, p.extra) {
         (4, Some([a, b])) => (is_date(a) && is_date(b), a < b && p.start < b && a < p.end),
@@ -98,7 +98,7 @@ pub fn vet(p: &Plan) -> Result<(), u8> {
 
 pub fn read(s: &[u8]) -> Result<Plan, u8> {
     let p = fields(s)?;
-    vet(&p)?;
+    plan_refusal(&p)?;
     Ok(p)
 }
 

@@ -8,11 +8,11 @@
 set -eu
 records=${1:-1000000}
 turns=${2:-5}
-room=target/bench
-input=$room/records-$records
-mkdir -p "$room"
+scratch=target/bench
+input=$scratch/records-$records
+mkdir -p "$scratch"
 
-rustc --edition 2021 -O -o "$room/plain" bench/printer.rs
+rustc --edition 2021 -O -o "$scratch/plain" bench/printer.rs
 [ -s "$input" ] || { python3 tests/records.py many "$records" > "$input.part" && mv "$input.part" "$input"; }
 
 # nanoseconds of one run of $1 that writes to $2
@@ -29,16 +29,16 @@ proved=999999999999
 plain=999999999999
 i=0
 while [ "$i" -lt "$turns" ]; do
-    proved=$(least "$proved" "$(once crates/plan_printer/out/plan_printer "$room/out-proved")")
-    plain=$(least "$plain" "$(once "$room/plain" "$room/out-plain")")
+    proved=$(least "$proved" "$(once crates/plan_printer/out/plan_printer "$scratch/out-proved")")
+    plain=$(least "$plain" "$(once "$scratch/plain" "$scratch/out-plain")")
     i=$((i + 1))
 done
 
-cmp "$room/out-proved" "$room/out-plain"
+cmp "$scratch/out-proved" "$scratch/out-plain"
 awk -v n="$records" -v a="$proved" -v b="$plain" 'BEGIN {
     printf "%d records, both print the same\n", n
     printf "Rattle      %10.0f records a second, %4.0f ns each\n", n / a * 1e9, a / n
     printf "plain Rust  %10.0f records a second, %4.0f ns each\n", n / b * 1e9, b / n
     printf "Rattle takes %.2f times as long\n", a / b
 }'
-rm -f "$room/out-proved" "$room/out-plain"
+rm -f "$scratch/out-proved" "$scratch/out-plain"

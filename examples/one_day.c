@@ -1,7 +1,7 @@
 /*
  * A host that keeps one meter: Plan A of document 01, 100 yuan, and the gas of 31 January 2020 up to its midnight.
  *
- *     gcc -std=c11 -Wall -Wextra -pedantic -Iinclude examples/one_day.c crates/host/out/libhost.a -o one_day
+ *     gcc -std=c11 -Wall -Wextra -pedantic -Iinclude examples/one_day.c crates/harpdapple/out/libharpdapple.a -o one_day
  */
 #include "harpdapple.h"
 
@@ -57,7 +57,7 @@ static void print_display(const struct harpdapple_meter *meter)
 
 /* What a call answered: its codes as they came, or why it was refused. */
 static void print_reply(const struct harpdapple_meter *meter, const char *what, struct harpdapple_stamp stamp,
-                        struct harpdapple_reply reply)
+                        struct harpdapple_codes_reply reply)
 {
     printf("%08" PRIu32 " second %5" PRIu32 ": %s", stamp.date, stamp.second, what);
     if (!reply.accepted) {
@@ -65,7 +65,7 @@ static void print_reply(const struct harpdapple_meter *meter, const char *what, 
         return;
     }
     for (size_t i = 0; i < reply.codes.count; i++) {
-        printf("%s %" PRIX32 " (%s)", i == 0 ? ": code" : ",", reply.codes.said[i], harpdapple_code_text(reply.codes.said[i]));
+        printf("%s %" PRIX32 " (%s)", i == 0 ? ": code" : ",", reply.codes.list[i], harpdapple_code_text(reply.codes.list[i]));
     }
     printf("\n");
     print_display(meter);
@@ -74,7 +74,7 @@ static void print_reply(const struct harpdapple_meter *meter, const char *what, 
 static void draw(struct harpdapple_meter *meter, uint32_t date, uint32_t second, uint32_t pulses)
 {
     struct harpdapple_pulses_call call = {.stamp = {date, second}, .count = pulses};
-    struct harpdapple_reply reply = harpdapple_pulses(meter, call);
+    struct harpdapple_codes_reply reply = harpdapple_pulses(meter, call);
     char what[40];
     snprintf(what, sizeof what, "%" PRIu32 " pulse%s", pulses, pulses == 1 ? "" : "s");
     print_reply(meter, what, call.stamp, reply);
@@ -96,7 +96,7 @@ static void print_record(const char *what, struct harpdapple_record_reply reply)
 static void begin(struct harpdapple_meter *meter, uint32_t day)
 {
     struct harpdapple_load_call load = {.stamp = {day, 0}, .slot = 1};
-    struct harpdapple_reply reply = harpdapple_load(meter, load, plan_a, sizeof plan_a);
+    struct harpdapple_codes_reply reply = harpdapple_load(meter, load, plan_a, sizeof plan_a);
     must(reply.accepted, reply.refusal, "loading Plan A");
     print_reply(meter, "Plan A loaded", load.stamp, reply);
 
@@ -139,7 +139,7 @@ int main(void)
     print_record("day", harpdapple_day(&meter, 0));
     print_record("month", harpdapple_month(&meter, 0));
     printf("open day of %08" PRIu32 ": ", meter.clock.date);
-    print_volume(meter.journal.day.volume);
+    print_volume(meter.records.day.volume);
     printf("\n");
     return EXIT_SUCCESS;
 }

@@ -17,8 +17,8 @@
  * ten-thousandths for a m3 times a volume in hundredths is an amount in millionths. Dates are the decimal number
  * YYYYMMDD, 20000101 to 20991231. A stamp is a date and a second of it; second 0 belongs to the day that it begins.
  *
- * The archive is for x86-64 Linux, little-endian: `rt lib` in crates/host writes libhost.a, `make install` puts it and this
- * header in place, and `pkg-config --cflags --libs harpdapple` tells where; by hand, link with -lhost.
+ * The archive is for x86-64 Linux, little-endian: `rt lib` in crates/harpdapple writes libharpdapple.a, `make install` puts it and this
+ * header in place, and `pkg-config --cflags --libs harpdapple` tells where; by hand, link with -lharpdapple.
  */
 #ifndef HARPDAPPLE_H
 #define HARPDAPPLE_H
@@ -104,8 +104,8 @@ struct harpdapple_stamp {
 struct harpdapple_account {
     int64_t balance;    /* millionths of a yuan; below zero is a debt */
     uint32_t serial;    /* of the last recharge, 0 before the first */
-    uint32_t alarm_one; /* whole yuan */
-    uint32_t alarm_two; /* whole yuan, below alarm_one */
+    uint32_t alarm_1; /* whole yuan */
+    uint32_t alarm_2; /* whole yuan, below alarm_1 */
 };
 
 /* A plan. What its steps and cycle word leave unread may hold anything and has no effect. */
@@ -114,8 +114,8 @@ struct harpdapple_plan {
     uint32_t end;    /* date, the first no longer in force */
     uint8_t steps;   /* 1 to 6 */
     uint8_t word;    /* cycle word, unread with one step: 1 month, 2 quarter, 3 year, 4 window, 5 runs of days */
-    uint32_t first;  /* word 4: date on which the window starts; word 5: date of the first cycle day */
-    uint32_t second; /* word 4: date on which the window ends, not in it; word 5: days in a cycle */
+    uint32_t extra1; /* word 4: date on which the window starts; word 5: date of the first cycle day */
+    uint32_t extra2; /* word 4: date on which the window ends, not in it; word 5: days in a cycle */
     uint32_t widths[HARPDAPPLE_STEPS]; /* hundredths in each step; the last step is endless */
     uint64_t prices[HARPDAPPLE_STEPS]; /* ten-thousandths of a yuan for a m3 in each step */
 };
@@ -126,8 +126,8 @@ struct harpdapple_slot {
 };
 
 struct harpdapple_slots {
-    struct harpdapple_slot one;
-    struct harpdapple_slot two;
+    struct harpdapple_slot slot_1;
+    struct harpdapple_slot slot_2;
     uint32_t usage; /* hundredths in the present cycle of the plan in force; 0 with none in force */
 };
 
@@ -150,7 +150,7 @@ struct harpdapple_record {
 };
 
 /* The open day or month. */
-struct harpdapple_tally {
+struct harpdapple_open_period {
     uint32_t volume; /* hundredths */
     uint64_t charge; /* millionths of a yuan */
 };
@@ -169,9 +169,9 @@ struct harpdapple_months {
     struct harpdapple_record held[HARPDAPPLE_MONTHS];
 };
 
-struct harpdapple_journal {
-    struct harpdapple_tally day;   /* open, of the clock's date */
-    struct harpdapple_tally month; /* open, of the clock's month */
+struct harpdapple_records {
+    struct harpdapple_open_period day;   /* open, of the clock's date */
+    struct harpdapple_open_period month; /* open, of the clock's month */
     struct harpdapple_days days;
     struct harpdapple_months months;
 };
@@ -182,7 +182,7 @@ struct harpdapple_meter {
     struct harpdapple_slots slots;
     struct harpdapple_volumes volumes;
     struct harpdapple_valve valve;
-    struct harpdapple_journal journal;
+    struct harpdapple_records records;
 };
 
 /* No accepted call yet: all amounts 0, no plan, alarms 20 and 5 yuan, mark "allow", valve closed. */
@@ -192,11 +192,11 @@ struct harpdapple_meter harpdapple_fresh(void);
 
 struct harpdapple_codes {
     size_t count;
-    uint32_t said[HARPDAPPLE_CODES]; /* HARPDAPPLE_CODE_.., in their order; 0 from `count` on */
+    uint32_t list[HARPDAPPLE_CODES]; /* HARPDAPPLE_CODE_.., in their order; 0 from `count` on */
 };
 
 /* What was done. On a refusal the meter is as it was and there are no codes. */
-struct harpdapple_reply {
+struct harpdapple_codes_reply {
     bool accepted;
     uint8_t refusal; /* enum harpdapple_refusal */
     struct harpdapple_codes codes;
@@ -220,8 +220,8 @@ struct harpdapple_load_call {
 
 struct harpdapple_alarms_call {
     struct harpdapple_stamp stamp;
-    uint32_t one; /* alarm 1, whole yuan */
-    uint32_t two; /* alarm 2, whole yuan */
+    uint32_t alarm_1; /* alarm 1, whole yuan */
+    uint32_t alarm_2; /* alarm 2, whole yuan */
 };
 
 struct harpdapple_command_call {
@@ -238,26 +238,26 @@ struct harpdapple_tick_call {
 };
 
 /* Gas was drawn. Refused: 0, 8, 9, 13, 14. Codes: those of turning the day, then 2E, 2F, 12, 30, 12, 33 as reached. */
-struct harpdapple_reply harpdapple_pulses(struct harpdapple_meter *meter, struct harpdapple_pulses_call call);
+struct harpdapple_codes_reply harpdapple_pulses(struct harpdapple_meter *meter, struct harpdapple_pulses_call call);
 
 /* Money was paid in. Refused: 0, 8, 9, 15 to 20. Code 21; the valve stays. */
-struct harpdapple_reply harpdapple_recharge(struct harpdapple_meter *meter, struct harpdapple_recharge_call call);
+struct harpdapple_codes_reply harpdapple_recharge(struct harpdapple_meter *meter, struct harpdapple_recharge_call call);
 
 /* A plan record put into a slot. Refused: 0, 8, 9, 10, 1 to 7, 11, 12. Code 27. */
-struct harpdapple_reply harpdapple_load(struct harpdapple_meter *meter, struct harpdapple_load_call call,
+struct harpdapple_codes_reply harpdapple_load(struct harpdapple_meter *meter, struct harpdapple_load_call call,
                                         const uint8_t *bytes, size_t length);
 
 /* The two alarms set. Refused: 0, 8, 9, 23. Code 27. */
-struct harpdapple_reply harpdapple_alarms(struct harpdapple_meter *meter, struct harpdapple_alarms_call call);
+struct harpdapple_codes_reply harpdapple_alarms(struct harpdapple_meter *meter, struct harpdapple_alarms_call call);
 
 /* The master station's command. Refused: 0, 8, 9, 21. Code 2B, and 12 where forbidding closes an open valve. */
-struct harpdapple_reply harpdapple_command(struct harpdapple_meter *meter, struct harpdapple_command_call call);
+struct harpdapple_codes_reply harpdapple_command(struct harpdapple_meter *meter, struct harpdapple_command_call call);
 
 /* The household's key. Refused: 0, 8, 9, 22. Code 11 where it opens the valve, none where the valve is open. */
-struct harpdapple_reply harpdapple_key(struct harpdapple_meter *meter, struct harpdapple_key_call call);
+struct harpdapple_codes_reply harpdapple_key(struct harpdapple_meter *meter, struct harpdapple_key_call call);
 
 /* The clock only. Refused: 0, 8, 9. Codes: those of turning the day. */
-struct harpdapple_reply harpdapple_tick(struct harpdapple_meter *meter, struct harpdapple_tick_call call);
+struct harpdapple_codes_reply harpdapple_tick(struct harpdapple_meter *meter, struct harpdapple_tick_call call);
 
 /* ---- Queries; the meter is only read ---- */
 
@@ -318,7 +318,7 @@ struct harpdapple_plan_reply {
     struct harpdapple_plan plan; /* what is not read is 0 */
 };
 
-struct harpdapple_verdict {
+struct harpdapple_acceptance {
     bool accepted;
     uint8_t refusal;
 };
@@ -333,7 +333,7 @@ struct harpdapple_part_reply {
 struct harpdapple_plan_reply harpdapple_plan_read(const uint8_t *bytes, size_t length);
 
 /* Writes a plan into a buffer of 66 bytes; bytes that are not read are written 0. Refused: 26, 2 to 7, the buffer as it was. */
-struct harpdapple_verdict harpdapple_plan_write(const struct harpdapple_plan *plan, uint8_t *out, size_t length);
+struct harpdapple_acceptance harpdapple_plan_write(const struct harpdapple_plan *plan, uint8_t *out, size_t length);
 
 /* Which of two records is in force on a date. Refused: 8, 1 to 7 for the first, then for the second, 24 neither, 12 both. */
 struct harpdapple_part_reply harpdapple_record_in_force(const uint8_t *first, size_t first_length, const uint8_t *second,
@@ -407,7 +407,7 @@ HARPDAPPLE_ASSERT(sizeof(bool) == 1 && sizeof(size_t) == 8, "harpdapple: the arc
 HARPDAPPLE_ASSERT(sizeof(struct harpdapple_meter) == 4680, "harpdapple: a meter has 4,680 bytes");
 HARPDAPPLE_ASSERT(sizeof(struct harpdapple_plan) == 96, "harpdapple: a plan has 96 bytes");
 HARPDAPPLE_ASSERT(sizeof(struct harpdapple_record) == 24, "harpdapple: a record has 24 bytes");
-HARPDAPPLE_ASSERT(sizeof(struct harpdapple_reply) == 48, "harpdapple: a reply has 48 bytes");
+HARPDAPPLE_ASSERT(sizeof(struct harpdapple_codes_reply) == 48, "harpdapple: a reply has 48 bytes");
 
 #undef HARPDAPPLE_ASSERT
 

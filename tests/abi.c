@@ -34,30 +34,30 @@ _Static_assert(HARPDAPPLE_REFUSED_BUFFER == 26 && HARPDAPPLE_REFUSED_NO_HEAVY_DA
 static void meter(void)
 {
     SIZE(stamp), AT(stamp, date), AT(stamp, second);
-    SIZE(account), AT(account, balance), AT(account, serial), AT(account, alarm_one), AT(account, alarm_two);
-    SIZE(plan), AT(plan, start), AT(plan, end), AT(plan, steps), AT(plan, word), AT(plan, first), AT(plan, second);
+    SIZE(account), AT(account, balance), AT(account, serial), AT(account, alarm_1), AT(account, alarm_2);
+    SIZE(plan), AT(plan, start), AT(plan, end), AT(plan, steps), AT(plan, word), AT(plan, extra1), AT(plan, extra2);
     AT(plan, widths), AT(plan, prices);
     SIZE(slot), AT(slot, loaded), AT(slot, plan);
-    SIZE(slots), AT(slots, one), AT(slots, two), AT(slots, usage);
+    SIZE(slots), AT(slots, slot_1), AT(slots, slot_2), AT(slots, usage);
     SIZE(volumes), AT(volumes, total), AT(volumes, unpriced);
     SIZE(valve), AT(valve, allow), AT(valve, open);
     SIZE(record), AT(record, date), AT(record, volume), AT(record, charge), AT(record, closing);
-    SIZE(tally), AT(tally, volume), AT(tally, charge);
+    SIZE(open_period), AT(open_period, volume), AT(open_period, charge);
     SIZE(days), AT(days, count), AT(days, held);
     SIZE(months), AT(months, count), AT(months, held);
-    SIZE(journal), AT(journal, day), AT(journal, month), AT(journal, days), AT(journal, months);
+    SIZE(records), AT(records, day), AT(records, month), AT(records, days), AT(records, months);
     SIZE(meter), AT(meter, clock), AT(meter, account), AT(meter, slots), AT(meter, volumes), AT(meter, valve);
-    AT(meter, journal);
+    AT(meter, records);
 }
 
 static void calls(void)
 {
-    SIZE(codes), AT(codes, count), AT(codes, said);
-    SIZE(reply), AT(reply, accepted), AT(reply, refusal), AT(reply, codes);
+    SIZE(codes), AT(codes, count), AT(codes, list);
+    SIZE(codes_reply), AT(codes_reply, accepted), AT(codes_reply, refusal), AT(codes_reply, codes);
     SIZE(pulses_call), AT(pulses_call, stamp), AT(pulses_call, count);
     SIZE(recharge_call), AT(recharge_call, stamp), AT(recharge_call, amount), AT(recharge_call, serial);
     SIZE(load_call), AT(load_call, stamp), AT(load_call, slot);
-    SIZE(alarms_call), AT(alarms_call, stamp), AT(alarms_call, one), AT(alarms_call, two);
+    SIZE(alarms_call), AT(alarms_call, stamp), AT(alarms_call, alarm_1), AT(alarms_call, alarm_2);
     SIZE(command_call), AT(command_call, stamp), AT(command_call, code);
     SIZE(key_call), AT(key_call, stamp);
     SIZE(tick_call), AT(tick_call, stamp);
@@ -72,7 +72,7 @@ static void replies(void)
     AT(record_reply, held);
     SIZE(sum_reply), AT(sum_reply, accepted), AT(sum_reply, refusal), AT(sum_reply, volume);
     SIZE(plan_reply), AT(plan_reply, accepted), AT(plan_reply, refusal), AT(plan_reply, plan);
-    SIZE(verdict), AT(verdict, accepted), AT(verdict, refusal);
+    SIZE(acceptance), AT(acceptance, accepted), AT(acceptance, refusal);
     SIZE(part_reply), AT(part_reply, accepted), AT(part_reply, refusal), AT(part_reply, which);
 }
 

@@ -4,7 +4,7 @@ import re
 
 ROOT = os.path.dirname(os.path.dirname(os.path.abspath(__file__)))
 PROGRAMS = ('calendar_check', 'plan_printer', 'replay', 'worked_sums')
-TWICE = ('host', 'account', 'records', 'slots', 'book')
+TWICE = ('harpdapple', 'account', 'records', 'slots', 'running_ledger')
 PROGRAM = 'src/main.rt'
 HEAD = re.compile(r'^( *)(pub(?:\(\w+\))? )?(?:extern "C" )?fn (\w+)', re.M)
 # a call, or a function that is named by its path: what stands before it, its path, its name

@@ -35,14 +35,14 @@ static struct harpdapple_stamp at(uint32_t date, uint32_t second)
 }
 
 /* An accepted call with these codes, 0 for none, that left its stamp in the clock. */
-static void took(const struct harpdapple_meter *meter, struct harpdapple_stamp stamp, struct harpdapple_reply reply,
+static void took(const struct harpdapple_meter *meter, struct harpdapple_stamp stamp, struct harpdapple_codes_reply reply,
                  uint32_t first, uint32_t second)
 {
     SAME(reply.accepted, true);
     SAME(reply.refusal, 0);
     SAME(reply.codes.count, (first != 0) + (second != 0));
-    SAME(reply.codes.said[0], first);
-    SAME(reply.codes.said[1], second);
+    SAME(reply.codes.list[0], first);
+    SAME(reply.codes.list[1], second);
     SAME(meter->clock.date, stamp.date);
     SAME(meter->clock.second, stamp.second);
 }
@@ -59,11 +59,11 @@ static void fresh(struct harpdapple_meter *meter)
 {
     *meter = harpdapple_fresh();
     SAME(meter->clock.date, 0);
-    SAME(meter->account.alarm_one, 20);
-    SAME(meter->account.alarm_two, 5);
+    SAME(meter->account.alarm_1, 20);
+    SAME(meter->account.alarm_2, 5);
     SAME(meter->valve.allow, true);
     SAME(meter->valve.open, false);
-    SAME(meter->journal.days.count + meter->journal.months.count, 0);
+    SAME(meter->records.days.count + meter->records.months.count, 0);
 }
 
 static void first_morning(struct harpdapple_meter *meter)
@@ -73,9 +73,9 @@ static void first_morning(struct harpdapple_meter *meter)
     load.slot = 2;
     SAME(harpdapple_load(meter, load, plan_2020, 65).refusal, HARPDAPPLE_REFUSED_LENGTH);
     took(meter, load.stamp, harpdapple_load(meter, load, plan_2020, sizeof plan_2020), HARPDAPPLE_CODE_SETTINGS, 0);
-    SAME(meter->slots.one.loaded, false);
-    SAME(meter->slots.two.loaded, true);
-    SAME(meter->slots.two.plan.end, 20210101);
+    SAME(meter->slots.slot_1.loaded, false);
+    SAME(meter->slots.slot_2.loaded, true);
+    SAME(meter->slots.slot_2.plan.end, 20210101);
 
     struct harpdapple_recharge_call paid;
     paid.stamp = at(20200131, 200);
@@ -87,11 +87,11 @@ static void first_morning(struct harpdapple_meter *meter)
 
     struct harpdapple_alarms_call alarms;
     alarms.stamp = at(20200131, 300);
-    alarms.one = 50;
-    alarms.two = 7;
+    alarms.alarm_1 = 50;
+    alarms.alarm_2 = 7;
     took(meter, alarms.stamp, harpdapple_alarms(meter, alarms), HARPDAPPLE_CODE_SETTINGS, 0);
-    SAME(meter->account.alarm_one, 50);
-    SAME(meter->account.alarm_two, 7);
+    SAME(meter->account.alarm_1, 50);
+    SAME(meter->account.alarm_2, 7);
 
     struct harpdapple_key_call key;
     key.stamp = at(20200131, 400);

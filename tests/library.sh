@@ -5,7 +5,7 @@
 # it takes the libraries and programs as that run proved and built them.
 set -u
 
-library=crates/host/out/libhost.a
+library=crates/harpdapple/out/libharpdapple.a
 is_proved=${1:-}
 out=target/tests
 passed=0
@@ -27,7 +27,7 @@ try() {
 
 builds() {
     if [ "$is_proved" != proved ]; then
-        (cd crates/host && rt lib) || return
+        (cd crates/harpdapple && rt lib) || return
     elif ! [ -f "$library" ]; then
         tests/proved.py host || return
     fi
@@ -84,7 +84,7 @@ if ! [ -f include/harpdapple.h ] || ! mkdir -p "$out"; then
     echo "library: FAILED: run from the repository's root"
     exit 1
 fi
-try "crates/host becomes $library" builds
+try "crates/harpdapple becomes $library" builds
 try "replay prints what is expected for the midnight of the ticket" plays
 if [ "${HARPDAPPLE_SKIP_LIBRARY_TESTS:-0}" = 1 ]; then
     echo "library: the tests with gcc, g++, rustc, make, pkg-config and python3 are left out, as HARPDAPPLE_SKIP_LIBRARY_TESTS says"

@@ -20,7 +20,7 @@ prover must leave unproved. Every public contract of a library has a wrong answe
 without edits are named in PROGRAMS (tests/edits.py). --list counts them and the runs that they take, and tries nothing. A crate needs as
 many runs as there are edits of one of its functions or definitions, beside those that are tried by themselves.
 
-The runs of as many crates go on at a time as there are processors (or WRONG_JOBS). target/wrong/CRATE/ has the logs, target/wrong/tally how
+The runs of as many crates go on at a time as there are processors (or WRONG_JOBS). target/wrong/CRATE/ has the logs, target/wrong/counts how
 many passed and failed. The last line counts them.
 """
 import concurrent.futures
@@ -44,19 +44,19 @@ ADMITTED = re.compile('was not admitted|because it was not|was rejected, was not
 PLACED = re.compile(r'(note: )?(?:\./)?((?:src|specs|proofs)/[^\s:]+):(\d+):\d+:(.*)')
 
 
-def checked(crate, room, kept, only):
-    """Checks the crate as it stands in `room`, or some functions of it, over the modules in `kept`; the status and what the prover said."""
+def checked(crate, scratch, kept, only):
+    """Checks the crate as it stands in the folder `scratch`, or some functions of it, over the modules in `kept`; the status and what the prover said."""
     more = ['--incremental', kept, '--jobs', '1', *(word for name in only for word in ('--only', crate.name + '::' + name))]
-    done = subprocess.run([f'{KIT}/bin/rattle', 'check', *words(crate.name), *more], cwd=room, capture_output=True, text=True, errors='replace')
+    done = subprocess.run([f'{KIT}/bin/rattle', 'check', *words(crate.name), *more], cwd=scratch, capture_output=True, text=True, errors='replace')
     return done.returncode, done.stdout + done.stderr
 
 
-def copied(crate, texts, room):
+def copied(crate, texts, scratch):
     for part in ('src', 'specs', 'proofs'):
         if os.path.isdir(os.path.join(ROOT, 'crates', crate.name, part)):
-            shutil.copytree(os.path.join(ROOT, 'crates', crate.name, part), os.path.join(room, part))
+            shutil.copytree(os.path.join(ROOT, 'crates', crate.name, part), os.path.join(scratch, part))
     for place, text in texts.items():
-        with open(os.path.join(room, place), 'w', encoding='utf-8') as out:
+        with open(os.path.join(scratch, place), 'w', encoding='utf-8') as out:
             out.write(text)
 
 
@@ -137,7 +137,7 @@ def own_errors(edit, run, errors):
     return [(place, row, said) for key, place, row, said in placed if key in mine - others]
 
 
-def verdict(edit, log, run):
+def fault_of(edit, log, run):
     """What is wrong with the refusal, or None, and the place of the first error."""
     errors = errors_in(log)
     if len(run) > 1:
@@ -164,24 +164,24 @@ def asked(run):
 
 
 def tried(run, number):
-    """Makes one run in a room of its own, and answers a line for each edit."""
+    """Makes one run in a scratch folder of its own, and answers a line for each edit."""
     crate, began = run[0].crate, time.time()
     said = lambda edit, what: '%s %s/%s: %s' % (edit.kind, crate.name, edit.label, what)
     texts = edited(run)
     if texts is None or any(edit.whole for edit in run):
         return [said(edit, edit.whole or 'BAD EDIT: an old text is not in its file, or is in it more than once') for edit in run]
     base = os.path.join(ALL, crate.name)
-    room = os.path.join(base, 'room%d' % number)
-    copied(crate, texts, room)
+    scratch = os.path.join(base, 'scratch%d' % number)
+    copied(crate, texts, scratch)
     only = asked(run)
-    status, log = checked(crate, room, os.path.join(base, 'kept'), only)
-    shutil.rmtree(room)
+    status, log = checked(crate, scratch, os.path.join(base, 'kept'), only)
+    shutil.rmtree(scratch)
     where = os.path.join(base, run[0].label + ('+%d.log' % (len(run) - 1) if len(run) > 1 else '.log'))
     with open(where, 'w', encoding='utf-8') as out:
         out.write(log)
     took, lines = time.time() - began, []
     for edit in run:
-        bad, place = verdict(edit, log, run)
+        bad, place = fault_of(edit, log, run)
         if len(run) > 1 and (bad or status != 1):
             AGAIN.append(edit)
             lines += tried([edit], number)
@@ -195,10 +195,10 @@ def tried(run, number):
 
 def stands(crate, base):
     """Whether the crate is proved without an edit."""
-    room = os.path.join(base, 'room')
-    copied(crate, {}, room)
-    status, said = checked(crate, room, os.path.join(base, 'kept'), [])
-    shutil.rmtree(room)
+    scratch = os.path.join(base, 'scratch')
+    copied(crate, {}, scratch)
+    status, said = checked(crate, scratch, os.path.join(base, 'kept'), [])
+    shutil.rmtree(scratch)
     with open(os.path.join(base, 'unedited.log'), 'w', encoding='utf-8') as out:
         out.write(said)
     return status == 0
@@ -246,7 +246,7 @@ def main(given):
         done = list(pool.map(lambda crate: all_of(crate, '--proved' in given), first))
     refused, made = sum(one for one, _ in done), sum(runs for _, runs in done)
     failed = wanted - refused + len(amiss)
-    with open(os.path.join(ALL, 'tally'), 'w', encoding='utf-8') as out:
+    with open(os.path.join(ALL, 'counts'), 'w', encoding='utf-8') as out:
         out.write('%d %d\n' % (refused, failed))
     spent = os.times()
     print('%d of %d wrong answers refused, in %d runs (%d of them a second try) of %d processor seconds; %d contracts lack some'

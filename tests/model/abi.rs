@@ -24,24 +24,24 @@ macro_rules! layout {
 
 pub fn print() {
     layout!("stamp", Stamp, date second);
-    layout!("account", Account, balance serial alarm_one alarm_two);
-    layout!("plan", Plan, start end steps word first second widths prices);
+    layout!("account", Account, balance serial alarm_1 alarm_2);
+    layout!("plan", Plan, start end steps word extra1 extra2 widths prices);
     layout!("slot", Slot, loaded plan);
-    layout!("slots", Slots, one two usage);
+    layout!("slots", Slots, slot_1 slot_2 usage);
     layout!("volumes", Volumes, total unpriced);
     layout!("valve", Valve, allow open);
     layout!("record", Record, date volume charge closing);
-    layout!("tally", Tally, volume charge);
+    layout!("open_period", OpenPeriod, volume charge);
     layout!("days", Days, count held);
     layout!("months", Months, count held);
-    layout!("journal", Journal, day month days months);
-    layout!("meter", Meter, clock account slots volumes valve journal);
-    layout!("codes", Codes, count said);
-    layout!("reply", Reply, accepted refusal codes);
+    layout!("records", Records, day month days months);
+    layout!("meter", Meter, clock account slots volumes valve records);
+    layout!("codes", Codes, count list);
+    layout!("codes_reply", CodesReply, accepted refusal codes);
     layout!("pulses_call", PulsesCall, stamp count);
     layout!("recharge_call", RechargeCall, stamp amount serial);
     layout!("load_call", LoadCall, stamp slot);
-    layout!("alarms_call", AlarmsCall, stamp one two);
+    layout!("alarms_call", AlarmsCall, stamp alarm_1 alarm_2);
     layout!("command_call", CommandCall, stamp code);
     layout!("key_call", KeyCall, stamp);
     layout!("tick_call", TickCall, stamp);
@@ -51,7 +51,7 @@ pub fn print() {
     layout!("record_reply", RecordReply, accepted refusal place held);
     layout!("sum_reply", SumReply, accepted refusal volume);
     layout!("plan_reply", PlanReply, accepted refusal plan);
-    layout!("verdict", Verdict, accepted refusal);
+    layout!("acceptance", Acceptance, accepted refusal);
     layout!("part_reply", PartReply, accepted refusal which);
     println!("counts {RECORD_BYTES} {STEPS} {DAYS} {MONTHS} {CODES}");
     codes();

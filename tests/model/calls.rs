@@ -8,7 +8,7 @@ pub enum Call {
     Pulses { stamp: Stamp, count: u32 },
     Recharge { stamp: Stamp, amount: u64, serial: u32 },
     Load { stamp: Stamp, slot: u32, bytes: Vec<u8> },
-    Alarms { stamp: Stamp, one: u32, two: u32 },
+    Alarms { stamp: Stamp, alarm_1: u32, alarm_2: u32 },
     Command { stamp: Stamp, code: u32 },
     Key { stamp: Stamp },
     Tick { stamp: Stamp },
@@ -74,7 +74,7 @@ impl fmt::Display for Call {
             Call::Load { slot, bytes, .. } => {
                 write!(f, "load into slot {slot} of {} bytes {}", bytes.len(), hex(bytes))?
             }
-            Call::Alarms { one, two, .. } => write!(f, "alarms {one} and {two}")?,
+            Call::Alarms { alarm_1, alarm_2, .. } => write!(f, "alarms {alarm_1} and {alarm_2}")?,
             Call::Command { code, .. } => write!(f, "command {code}")?,
             Call::Key { .. } => write!(f, "key")?,
             Call::Tick { .. } => write!(f, "tick")?,

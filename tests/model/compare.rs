@@ -3,9 +3,9 @@
 use crate::bounds::{meter_of, Broken};
 use crate::calls::{Call, Operation};
 use crate::library;
-use crate::marks;
+use crate::situations;
 use crate::model::{Meter, Record};
-use crate::tally::Tally;
+use crate::seen::Seen;
 
 /// A difference, in plain words.
 pub type Difference = String;
@@ -28,21 +28,21 @@ pub fn words(answer: &Result<Vec<u32>, u8>) -> String {
 }
 
 /// The reply that the header asks for: what is not said is 0.
-fn reply_of(answer: &Result<Vec<u32>, u8>) -> library::Reply {
-    let mut reply = library::Reply::default();
+fn reply_of(answer: &Result<Vec<u32>, u8>) -> library::CodesReply {
+    let mut reply = library::CodesReply::default();
     match answer {
         Err(refusal) => reply.refusal = *refusal,
         Ok(codes) => {
             reply.accepted = 1;
             reply.codes.count = codes.len();
-            reply.codes.said[..codes.len()].copy_from_slice(codes);
+            reply.codes.list[..codes.len()].copy_from_slice(codes);
         }
     }
     reply
 }
 
-fn reply_words(reply: &library::Reply) -> String {
-    let said = &reply.codes.said[..reply.codes.count.min(library::CODES)];
+fn reply_words(reply: &library::CodesReply) -> String {
+    let said = &reply.codes.list[..reply.codes.count.min(library::CODES)];
     let answer = if reply.accepted == 1 { Ok(said.to_vec()) } else { Err(reply.refusal) };
     format!("{} ({reply:?})", words(&answer))
 }
@@ -57,16 +57,16 @@ impl Pair {
     }
 
     /// Whether the call was accepted, or how the two differ.
-    pub fn call(&mut self, call: &Call, tally: &mut Tally) -> Result<bool, Difference> {
+    pub fn call(&mut self, call: &Call, seen: &mut Seen) -> Result<bool, Difference> {
         let before = self.host;
         let lent = call.clone();
-        let scene = self.model.as_ref().ok().map(marks::Scene::of);
+        let scene = self.model.as_ref().ok().map(situations::Scene::of);
         let reply = library::run(&mut self.host, call);
         let answer = match &mut self.model {
             Ok(model) => model.call(call),
             Err(_) => Err(0),
         };
-        tally.calls += 1;
+        seen.calls += 1;
         if reply != reply_of(&answer) {
             return Err(format!("library: {}\nmodel: {}", reply_words(&reply), words(&answer)));
         }
@@ -75,18 +75,18 @@ impl Pair {
         }
         let operation = call.operation();
         let Ok(codes) = &answer else {
-            tally.refuse(operation, reply.refusal);
-            marks::refused(call, reply.refusal, tally);
+            seen.refuse(operation, reply.refusal);
+            situations::refused(call, reply.refusal, seen);
             return unchanged(&before, &self.host).map(|()| false);
         };
-        tally.accept(operation);
-        codes.iter().for_each(|&code| tally.code(code));
+        seen.accept(operation);
+        codes.iter().for_each(|&code| seen.code(code));
         let model = self.model.as_ref().expect("an accepted call");
-        marks::accepted(&scene.expect("an accepted call"), model, call, codes, tally);
+        situations::accepted(&scene.expect("an accepted call"), model, call, codes, seen);
         match difference(model, &self.host) {
             Some(difference) => Err(format!("both: {}\n{difference}", words(&answer))),
             None => {
-                rest_stands(&before.journal, &self.host.journal)?;
+                rest_stands(&before.records, &self.host.records)?;
                 loaded_exactly(call, model, &self.host).map(|()| true)
             }
         }
@@ -98,7 +98,7 @@ pub fn unchanged(before: &library::Meter, after: &library::Meter) -> Result<(), 
     if before == after {
         return Ok(());
     }
-    let (old, new) = (&before.journal, &after.journal);
+    let (old, new) = (&before.records, &after.records);
     let refused = "refused, but the library changed the meter:";
     same(&format!("{refused} clock"), &after.clock, &before.clock)?;
     same(&format!("{refused} account"), &after.account, &before.account)?;
@@ -114,7 +114,7 @@ pub fn unchanged(before: &library::Meter, after: &library::Meter) -> Result<(), 
 }
 
 /// A new record moves those that are held and no more: records behind the held ones stand as they were.
-fn rest_stands(old: &library::Journal, new: &library::Journal) -> Result<(), Difference> {
+fn rest_stands(old: &library::Records, new: &library::Records) -> Result<(), Difference> {
     let days = new.days.held.iter().zip(&old.days.held).skip(new.days.count).map(|pair| ("day", pair));
     let months = new.months.held.iter().zip(&old.months.held).skip(new.months.count).map(|pair| ("month", pair));
     days.chain(months).try_for_each(|(what, (new, old))| same(&format!("a {what} record that is not held"), new, old))
@@ -125,7 +125,7 @@ fn loaded_exactly(call: &Call, model: &Meter, host: &library::Meter) -> Result<(
     let &Call::Load { slot, .. } = call else {
         return Ok(());
     };
-    let held = if slot == 1 { &host.slots.one } else { &host.slots.two };
+    let held = if slot == 1 { &host.slots.slot_1 } else { &host.slots.slot_2 };
     let wanted = model.slots[slot as usize - 1].expect("a loaded slot").to_host();
     if held.loaded == 1 && held.plan == wanted {
         return Ok(());
@@ -136,8 +136,8 @@ fn loaded_exactly(call: &Call, model: &Meter, host: &library::Meter) -> Result<(
 fn record_of(record: &Record) -> library::Record {
     library::Record {
         date: record.date,
-        volume: record.tally.volume as u32,
-        charge: record.tally.charge as u64,
+        volume: record.period.volume as u32,
+        charge: record.period.charge as u64,
         closing: record.closing,
     }
 }
@@ -145,16 +145,16 @@ fn record_of(record: &Record) -> library::Record {
 /// The first field in which the library's meter is not the model's; records beyond the count are not looked at.
 pub fn difference(model: &Meter, host: &library::Meter) -> Option<Difference> {
     let (date, second) = model.clock.map_or((0, 0), |clock| (clock.date.number(), clock.second));
-    let journal = &host.journal;
+    let journal = &host.records;
     let fields: [(&str, i128, i128); 19] = [
         ("clock's date", date as i128, host.clock.date as i128),
         ("clock's second", second as i128, host.clock.second as i128),
         ("balance", model.balance as i128, host.account.balance as i128),
         ("last serial", model.serial as i128, host.account.serial as i128),
-        ("alarm 1", model.alarms.0 as i128, host.account.alarm_one as i128),
-        ("alarm 2", model.alarms.1 as i128, host.account.alarm_two as i128),
-        ("slot 1 loaded", model.slots[0].is_some() as i128, host.slots.one.loaded as i128),
-        ("slot 2 loaded", model.slots[1].is_some() as i128, host.slots.two.loaded as i128),
+        ("alarm 1", model.alarms.0 as i128, host.account.alarm_1 as i128),
+        ("alarm 2", model.alarms.1 as i128, host.account.alarm_2 as i128),
+        ("slot 1 loaded", model.slots[0].is_some() as i128, host.slots.slot_1.loaded as i128),
+        ("slot 2 loaded", model.slots[1].is_some() as i128, host.slots.slot_2.loaded as i128),
         ("usage", model.usage as i128, host.slots.usage as i128),
         ("total volume", model.total as i128, host.volumes.total as i128),
         ("unpriced volume", model.unpriced as i128, host.volumes.unpriced as i128),
@@ -179,7 +179,7 @@ pub fn difference(model: &Meter, host: &library::Meter) -> Option<Difference> {
 
 /// Plans are the same where their read fields are.
 fn plans_differ(model: &Meter, host: &library::Meter) -> Option<Difference> {
-    for (plan, slot) in model.slots.iter().zip([&host.slots.one, &host.slots.two]) {
+    for (plan, slot) in model.slots.iter().zip([&host.slots.slot_1, &host.slots.slot_2]) {
         let Some(plan) = plan else { continue };
         if crate::plan::Plan::of_host(&slot.plan) != Ok(*plan) {
             return Some(format!("plan\nlibrary: {:?}\nmodel: {plan:?}", slot.plan));
@@ -210,10 +210,10 @@ pub fn same<T: PartialEq + std::fmt::Debug + ?Sized>(what: &str, library: &T, mo
 }
 
 /// Counts a query's answer.
-pub fn count(tally: &mut Tally, operation: Operation, refusal: Option<u8>) {
-    tally.queries += 1;
+pub fn count(seen: &mut Seen, operation: Operation, refusal: Option<u8>) {
+    seen.queries += 1;
     match refusal {
-        Some(refusal) => tally.refuse(operation, refusal),
-        None => tally.accept(operation),
+        Some(refusal) => seen.refuse(operation, refusal),
+        None => seen.accept(operation),
     }
 }

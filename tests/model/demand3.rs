@@ -6,11 +6,11 @@ use crate::compare::{same, Difference};
 use crate::ledger::Ledger;
 use crate::library::{self, Meter, Stamp};
 use crate::random::Random;
-use crate::tally::Tally;
+use crate::seen::Seen;
 
 /// Accepted recharges minus balance equals the ledger sum.
-pub fn ledger(ledger: &Ledger, meter: &Meter, tally: &mut Tally) -> Result<(), Difference> {
-    tally.mark("ledger compared");
+pub fn ledger(ledger: &Ledger, meter: &Meter, seen: &mut Seen) -> Result<(), Difference> {
+    seen.situation("ledger compared");
     if ledger.holds(meter.account.balance) {
         return Ok(());
     }
@@ -26,20 +26,20 @@ fn run(list: &[Call]) -> Result<(Meter, Vec<u32>), usize> {
         if reply.accepted != 1 {
             return Err(i);
         }
-        codes.extend(&reply.codes.said[..reply.codes.count]);
+        codes.extend(&reply.codes.list[..reply.codes.count]);
     }
     Ok((meter, codes))
 }
 
 /// A list without a refusal, and the same with its pulse calls cut: the same but for the clock's second.
-pub fn cut(r: &mut Random, list: &[Call], tally: &mut Tally) -> Result<(), Difference> {
+pub fn cut(r: &mut Random, list: &[Call], seen: &mut Seen) -> Result<(), Difference> {
     let pieces = pieces(r, list);
     let refused = |i: usize, which: &str| format!("demand 3: call {i} of the {which} list was refused");
     let (one, codes_one) = run(list).map_err(|i| refused(i, "first"))?;
     let (mut two, codes_two) = run(&pieces).map_err(|i| refused(i, "cut"))?;
     same("demand 3: step after the cut list", &library::step(&two), &library::step(&one))?;
     two.clock.second = one.clock.second;
-    tally.mark("list cut");
+    seen.situation("list cut");
     same("demand 3: meter after the cut list (the second is the uncut one)", &two, &one)?;
     same("demand 3: codes of the cut list (the second is the uncut one)", &codes_two, &codes_one)
 }

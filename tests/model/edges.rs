@@ -2,7 +2,7 @@
 
 use crate::bounds::Broken;
 use crate::calendar::{Date, LAST_SECOND};
-use crate::library::{Meter, Record, Slot, Tally, DAYS, MONTHS};
+use crate::library::{Meter, Record, Slot, OpenPeriod, DAYS, MONTHS};
 use crate::meters::limit;
 use crate::model::{MOST_ALARM, TOP_BALANCE};
 use crate::plan::{Cycle, Plan, Step, MOST};
@@ -20,8 +20,8 @@ pub const INSIDE: [(&str, Change); 25] = [
     ("clock 29 February", |_, m| move_clock(m, 20_960_229)),
     ("clock's second 86,399", |_, m| m.clock.second = LAST_SECOND),
     ("last serial 65,535", |_, m| m.account.serial = 65_535),
-    ("greatest alarms", |_, m| (m.account.alarm_one, m.account.alarm_two) = (MOST_ALARM, MOST_ALARM - 1)),
-    ("least alarms", |_, m| (m.account.alarm_one, m.account.alarm_two) = (2, 1)),
+    ("greatest alarms", |_, m| (m.account.alarm_1, m.account.alarm_2) = (MOST_ALARM, MOST_ALARM - 1)),
+    ("least alarms", |_, m| (m.account.alarm_1, m.account.alarm_2) = (2, 1)),
     ("total 99,999,999", |_, m| m.volumes.total = MOST as u32),
     ("unpriced volume is the total", |_, m| m.volumes.unpriced = m.volumes.total),
     ("usage is the total", |_, m| {
@@ -30,26 +30,26 @@ pub const INSIDE: [(&str, Change); 25] = [
     }),
     ("balance at its least", |_, m| m.account.balance = -limit(m)),
     ("balance at its most", |_, m| m.account.balance = TOP_BALANCE),
-    ("open day at its most", |_, m| m.journal.day = full(m)),
-    ("open month at its most", |_, m| m.journal.month = full(m)),
+    ("open day at its most", |_, m| m.records.day = full(m)),
+    ("open month at its most", |_, m| m.records.month = full(m)),
     ("62 day records", |_, m| {
-        m.journal.days.count = DAYS;
-        m.journal.days.held = [full_record(m, -limit(m)); DAYS];
+        m.records.days.count = DAYS;
+        m.records.days.held = [full_record(m, -limit(m)); DAYS];
     }),
     ("120 month records", |_, m| {
-        m.journal.months.count = MONTHS;
-        m.journal.months.held = [full_record(m, TOP_BALANCE); MONTHS];
+        m.records.months.count = MONTHS;
+        m.records.months.held = [full_record(m, TOP_BALANCE); MONTHS];
     }),
     ("no records, anything beyond", |r, m| {
-        (m.journal.days.count, m.journal.months.count) = (0, 0);
-        m.journal.days.held[0].volume = r.pick(&[u32::MAX, 0]);
+        (m.records.days.count, m.records.months.count) = (0, 0);
+        m.records.days.held[0].volume = r.pick(&[u32::MAX, 0]);
     }),
     ("plans that meet at a midnight", |_, m| running(m)),
     ("plans that meet at the clock's midnight", |_, m| two_plans(m, (-10, 0), (0, 20))),
     ("both plans in force before the clock's date alone", |_, m| two_plans(m, (-10, 0), (-5, 20))),
     ("both plans in force yesterday, slots changed", |_, m| two_plans(m, (-5, 20), (-10, 0))),
     ("periods overlap, windows do not", |_, m| windows(m, 0)),
-    ("no plan in force, valve closed", |_, m| idle(m)),
+    ("no plan in force, valve closed", |_, m| without_plan(m)),
     ("usage 1 and open valve on the plan's first day", |_, m| {
         some_total(m);
         two_plans(m, (0, 1), (1, 2));
@@ -69,13 +69,13 @@ pub const OUTSIDE: [(&str, Broken, Change); 30] = [
     ("last serial", "last serial", |r, m| m.account.serial = r.pick(&[65_536, u32::MAX])),
     ("alarms", "alarms", |r, m| {
         let pairs = [(0, 0), (1, 0), (5, 5), (5, 20), (MOST_ALARM + 1, 5), (u32::MAX, 5), (u32::MAX, u32::MAX)];
-        (m.account.alarm_one, m.account.alarm_two) = r.pick(&pairs);
+        (m.account.alarm_1, m.account.alarm_2) = r.pick(&pairs);
     }),
     ("both plans in force later", BOTH, |_, m| two_plans(m, (-10, 10), (9, 20))),
     ("both plans in force today alone", BOTH, |_, m| two_plans(m, (-10, 1), (0, 20))),
     ("both windows in force on one day", BOTH, |_, m| windows(m, 1)),
     ("both plans in force later, none today", BOTH, |_, m| {
-        idle(m);
+        without_plan(m);
         two_plans(m, (5, 20), (19, 30));
     }),
     ("total", "total", |r, m| m.volumes.total = r.pick(&[MOST as u32 + 1, u32::MAX])),
@@ -86,15 +86,15 @@ pub const OUTSIDE: [(&str, Broken, Change); 30] = [
     }),
     ("balance too low", "balance", |r, m| m.account.balance = r.pick(&[-limit(m) - 1, i64::MIN])),
     ("balance too high", "balance", |r, m| m.account.balance = r.pick(&[TOP_BALANCE + 1, i64::MAX])),
-    ("open day's volume", "open day's volume", |r, m| m.journal.day.volume = above(r, m)),
-    ("open day's charge", "open day's charge", |r, m| m.journal.day.charge = dear(r, m)),
-    ("open month's volume", "open month's volume", |r, m| m.journal.month.volume = above(r, m)),
-    ("open month's charge", "open month's charge", |r, m| m.journal.month.charge = dear(r, m)),
+    ("open day's volume", "open day's volume", |r, m| m.records.day.volume = above(r, m)),
+    ("open day's charge", "open day's charge", |r, m| m.records.day.charge = dear(r, m)),
+    ("open month's volume", "open month's volume", |r, m| m.records.month.volume = above(r, m)),
+    ("open month's charge", "open month's charge", |r, m| m.records.month.charge = dear(r, m)),
     ("day records held", "day records", |r, m| {
-        m.journal.days.count = r.pick(&[63, 64, 120, 256, 1 << 32, 1 << 63, usize::MAX]);
+        m.records.days.count = r.pick(&[63, 64, 120, 256, 1 << 32, 1 << 63, usize::MAX]);
     }),
     ("month records held", "month records", |r, m| {
-        m.journal.months.count = r.pick(&[121, 128, 256, 1 << 32, 1 << 63, usize::MAX]);
+        m.records.months.count = r.pick(&[121, 128, 256, 1 << 32, 1 << 63, usize::MAX]);
     }),
     ("day record's volume", "record's volume", |r, m| a_day(r, m).volume = above(r, m)),
     ("day record's charge", "record's charge", |r, m| a_day(r, m).charge = dear(r, m)),
@@ -104,7 +104,7 @@ pub const OUTSIDE: [(&str, Broken, Change); 30] = [
     ("month record's closing balance", "record's closing balance", |r, m| a_month(r, m).closing = far(r, m)),
     ("usage with no plan in force", "usage 0 with no plan in force", |_, m| {
         some_total(m);
-        idle(m);
+        without_plan(m);
         m.slots.usage = 1;
     }),
     ("usage with no plan loaded", "usage 0 with no plan in force", |_, m| {
@@ -113,7 +113,7 @@ pub const OUTSIDE: [(&str, Broken, Change); 30] = [
         m.slots.usage = 1;
     }),
     ("open valve with no plan in force", "valve closed with no plan in force", |_, m| {
-        idle(m);
+        without_plan(m);
         m.valve.open = 1;
     }),
     ("open valve with no plan loaded", "valve closed with no plan in force", |_, m| {
@@ -127,21 +127,21 @@ pub const NOT_FRESH: [(&str, fn(&mut Meter)); 18] = [
     ("second", |m| m.clock.second = 1),
     ("balance", |m| m.account.balance = 1),
     ("serial", |m| m.account.serial = 1),
-    ("alarm 1", |m| m.account.alarm_one = 21),
-    ("alarm 2", |m| m.account.alarm_two = 4),
-    ("slot 1", |m| m.slots.one = slot(&simple(20_200_101, 20_210_101))),
-    ("slot 2", |m| m.slots.two = slot(&simple(20_200_101, 20_210_101))),
+    ("alarm 1", |m| m.account.alarm_1 = 21),
+    ("alarm 2", |m| m.account.alarm_2 = 4),
+    ("slot 1", |m| m.slots.slot_1 = slot(&simple(20_200_101, 20_210_101))),
+    ("slot 2", |m| m.slots.slot_2 = slot(&simple(20_200_101, 20_210_101))),
     ("usage", |m| m.slots.usage = 1),
     ("total", |m| m.volumes.total = 1),
     ("unpriced volume", |m| m.volumes.unpriced = 1),
     ("mark", |m| m.valve.allow = 0),
     ("valve", |m| m.valve.open = 1),
-    ("open day's volume", |m| m.journal.day.volume = 1),
-    ("open day's charge", |m| m.journal.day.charge = 1),
-    ("open month's volume", |m| m.journal.month.volume = 1),
-    ("open month's charge", |m| m.journal.month.charge = 1),
-    ("day records", |m| m.journal.days.count = 1),
-    ("month records", |m| m.journal.months.count = 1),
+    ("open day's volume", |m| m.records.day.volume = 1),
+    ("open day's charge", |m| m.records.day.charge = 1),
+    ("open month's volume", |m| m.records.month.volume = 1),
+    ("open month's charge", |m| m.records.month.charge = 1),
+    ("day records", |m| m.records.days.count = 1),
+    ("month records", |m| m.records.months.count = 1),
 ];
 
 /// A second slot whose plan gives one of the refusals 2 to 7.
@@ -153,7 +153,7 @@ pub fn break_plan(r: &mut Random, meter: &mut Meter, refusal: u8) {
         let mut plan = records::host_plan(r, &good);
         records::damage_host(r, &mut plan);
         if Plan::of_host(&plan) == Err(refusal) {
-            meter.slots.two.plan = plan;
+            meter.slots.slot_2.plan = plan;
             return;
         }
     }
@@ -184,8 +184,8 @@ fn slot(plan: &Plan) -> Slot {
 fn two_plans(meter: &mut Meter, one: (i64, i64), two: (i64, i64)) {
     let date = clock(meter);
     let on = |days: i64| date.plus(days).number();
-    meter.slots.one = slot(&simple(on(one.0), on(one.1)));
-    meter.slots.two = slot(&simple(on(two.0), on(two.1)));
+    meter.slots.slot_1 = slot(&simple(on(one.0), on(one.1)));
+    meter.slots.slot_2 = slot(&simple(on(two.0), on(two.1)));
 }
 
 /// Two plans of one period with windows that have so many days in common.
@@ -194,10 +194,10 @@ fn windows(meter: &mut Meter, common: i64) {
     two_plans(meter, (-20, 20), (-20, 20));
     let window = |slot: &mut Slot, from: i64, to: i64| {
         slot.plan.word = 4;
-        (slot.plan.first, slot.plan.second) = (date.plus(from).number(), date.plus(to).number());
+        (slot.plan.extra1, slot.plan.extra2) = (date.plus(from).number(), date.plus(to).number());
     };
-    window(&mut meter.slots.one, -30, 5);
-    window(&mut meter.slots.two, 5 - common, 30);
+    window(&mut meter.slots.slot_1, -30, 5);
+    window(&mut meter.slots.slot_2, 5 - common, 30);
 }
 
 /// One plan in force on the clock's date and one after it.
@@ -206,13 +206,13 @@ fn running(meter: &mut Meter) {
 }
 
 /// No plan in force on the clock's date: one has ended, one is to come.
-fn idle(meter: &mut Meter) {
+fn without_plan(meter: &mut Meter) {
     unloaded(meter);
     two_plans(meter, (-10, 0), (1, 20));
 }
 
 fn unloaded(meter: &mut Meter) {
-    (meter.slots.one.loaded, meter.slots.two.loaded) = (0, 0);
+    (meter.slots.slot_1.loaded, meter.slots.slot_2.loaded) = (0, 0);
     (meter.slots.usage, meter.valve.open) = (0, 0);
 }
 
@@ -221,8 +221,8 @@ fn some_total(meter: &mut Meter) {
     meter.volumes.total = meter.volumes.total.max(10);
 }
 
-fn full(meter: &Meter) -> Tally {
-    Tally { volume: meter.volumes.total, charge: limit(meter) as u64 }
+fn full(meter: &Meter) -> OpenPeriod {
+    OpenPeriod { volume: meter.volumes.total, charge: limit(meter) as u64 }
 }
 
 fn full_record(meter: &Meter, closing: i64) -> Record {
@@ -252,13 +252,13 @@ fn at(r: &mut Random, count: &mut usize, held: &mut [Record]) -> usize {
 }
 
 fn a_day<'a>(r: &mut Random, meter: &'a mut Meter) -> &'a mut Record {
-    let days = &mut meter.journal.days;
+    let days = &mut meter.records.days;
     let k = at(r, &mut days.count, &mut days.held);
     &mut days.held[k]
 }
 
 fn a_month<'a>(r: &mut Random, meter: &'a mut Meter) -> &'a mut Record {
-    let months = &mut meter.journal.months;
+    let months = &mut meter.records.months;
     let k = at(r, &mut months.count, &mut months.held);
     &mut months.held[k]
 }

@@ -77,12 +77,12 @@ pub const HABITS: [Habit; 6] = [
 pub fn call(r: &mut Random, meter: &Meter, habit: &Habit) -> Call {
     let wrong = r.one_in(habit.wrong);
     let good = next_stamp(r, meter, habit.paces);
-    let idle = meter.slot_on(good.date).is_none();
+    let without_plan = meter.slot_on(good.date).is_none();
     let stuck = meter.balance > 0 && !meter.open;
     let operation = match r.below(if habit.full { 240 } else { 100 }) {
-        _ if idle && r.one_in(4) => Operation::Load,
+        _ if without_plan && r.one_in(4) => Operation::Load,
         _ if meter.balance <= 0 && r.one_in(4) => Operation::Recharge,
-        _ if !idle && stuck && r.one_in(6) => Operation::Key,
+        _ if !without_plan && stuck && r.one_in(6) => Operation::Key,
         46..=57 => Operation::Load,
         58..=73 => Operation::Recharge,
         74..=85 => Operation::Key,
@@ -179,15 +179,15 @@ fn recharge(r: &mut Random, meter: &Meter, stamp: library::Stamp, wrong: bool) -
 }
 
 fn alarms(r: &mut Random, stamp: library::Stamp, wrong: bool) -> Call {
-    let two = r.between(1, 50) as u32;
-    let one = two + r.between(1, 50) as u32;
+    let alarm_2 = r.between(1, 50) as u32;
+    let alarm_1 = alarm_2 + r.between(1, 50) as u32;
     let most = MOST_ALARM;
-    let good = [(one, two), (20, 5), (2, 1), (most, most - 1), (most, 1)];
+    let good = [(alarm_1, alarm_2), (20, 5), (2, 1), (most, most - 1), (most, 1)];
     let any = (r.next() as u32, r.next() as u32);
     let bad =
         [(0, 0), (1, 0), (5, 5), (5, 20), (most + 1, 5), (u32::MAX, u32::MAX), (u32::MAX, 1), (most + 1, most), any];
-    let (one, two) = if wrong { r.pick(&bad) } else { r.pick(&good) };
-    Call::Alarms { stamp, one, two }
+    let (alarm_1, alarm_2) = if wrong { r.pick(&bad) } else { r.pick(&good) };
+    Call::Alarms { stamp, alarm_1, alarm_2 }
 }
 
 fn count(r: &mut Random, meter: &Meter, date: Date, wrong: bool, full: bool) -> u32 {

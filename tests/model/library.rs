@@ -20,8 +20,8 @@ pub struct Stamp {
 pub struct Account {
     pub balance: i64,
     pub serial: u32,
-    pub alarm_one: u32,
-    pub alarm_two: u32,
+    pub alarm_1: u32,
+    pub alarm_2: u32,
 }
 
 #[repr(C)]
@@ -31,8 +31,8 @@ pub struct Plan {
     pub end: u32,
     pub steps: u8,
     pub word: u8,
-    pub first: u32,
-    pub second: u32,
+    pub extra1: u32,
+    pub extra2: u32,
     pub widths: [u32; STEPS],
     pub prices: [u64; STEPS],
 }
@@ -47,8 +47,8 @@ pub struct Slot {
 #[repr(C)]
 #[derive(Clone, Copy, PartialEq, Debug, Default)]
 pub struct Slots {
-    pub one: Slot,
-    pub two: Slot,
+    pub slot_1: Slot,
+    pub slot_2: Slot,
     pub usage: u32,
 }
 
@@ -77,7 +77,7 @@ pub struct Record {
 
 #[repr(C)]
 #[derive(Clone, Copy, PartialEq, Debug, Default)]
-pub struct Tally {
+pub struct OpenPeriod {
     pub volume: u32,
     pub charge: u64,
 }
@@ -98,9 +98,9 @@ pub struct Months {
 
 #[repr(C)]
 #[derive(Clone, Copy, PartialEq, Debug)]
-pub struct Journal {
-    pub day: Tally,
-    pub month: Tally,
+pub struct Records {
+    pub day: OpenPeriod,
+    pub month: OpenPeriod,
     pub days: Days,
     pub months: Months,
 }
@@ -113,19 +113,19 @@ pub struct Meter {
     pub slots: Slots,
     pub volumes: Volumes,
     pub valve: Valve,
-    pub journal: Journal,
+    pub records: Records,
 }
 
 #[repr(C)]
 #[derive(Clone, Copy, PartialEq, Debug, Default)]
 pub struct Codes {
     pub count: usize,
-    pub said: [u32; CODES],
+    pub list: [u32; CODES],
 }
 
 #[repr(C)]
 #[derive(Clone, Copy, PartialEq, Debug, Default)]
-pub struct Reply {
+pub struct CodesReply {
     pub accepted: u8,
     pub refusal: u8,
     pub codes: Codes,
@@ -157,8 +157,8 @@ pub struct LoadCall {
 #[derive(Clone, Copy)]
 pub struct AlarmsCall {
     pub stamp: Stamp,
-    pub one: u32,
-    pub two: u32,
+    pub alarm_1: u32,
+    pub alarm_2: u32,
 }
 
 #[repr(C)]
@@ -230,7 +230,7 @@ pub struct PlanReply {
 
 #[repr(C)]
 #[derive(Clone, Copy, PartialEq, Debug, Default)]
-pub struct Verdict {
+pub struct Acceptance {
     pub accepted: u8,
     pub refusal: u8,
 }
@@ -245,13 +245,13 @@ pub struct PartReply {
 
 extern "C" {
     fn harpdapple_fresh() -> Meter;
-    fn harpdapple_pulses(meter: *mut Meter, call: PulsesCall) -> Reply;
-    fn harpdapple_recharge(meter: *mut Meter, call: RechargeCall) -> Reply;
-    fn harpdapple_load(meter: *mut Meter, call: LoadCall, bytes: *const u8, length: usize) -> Reply;
-    fn harpdapple_alarms(meter: *mut Meter, call: AlarmsCall) -> Reply;
-    fn harpdapple_command(meter: *mut Meter, call: CommandCall) -> Reply;
-    fn harpdapple_key(meter: *mut Meter, call: KeyCall) -> Reply;
-    fn harpdapple_tick(meter: *mut Meter, call: TickCall) -> Reply;
+    fn harpdapple_pulses(meter: *mut Meter, call: PulsesCall) -> CodesReply;
+    fn harpdapple_recharge(meter: *mut Meter, call: RechargeCall) -> CodesReply;
+    fn harpdapple_load(meter: *mut Meter, call: LoadCall, bytes: *const u8, length: usize) -> CodesReply;
+    fn harpdapple_alarms(meter: *mut Meter, call: AlarmsCall) -> CodesReply;
+    fn harpdapple_command(meter: *mut Meter, call: CommandCall) -> CodesReply;
+    fn harpdapple_key(meter: *mut Meter, call: KeyCall) -> CodesReply;
+    fn harpdapple_tick(meter: *mut Meter, call: TickCall) -> CodesReply;
     fn harpdapple_step(meter: *const Meter) -> StepReply;
     fn harpdapple_display(meter: *const Meter) -> DisplayReply;
     fn harpdapple_shown(balance: i64) -> i64;
@@ -260,7 +260,7 @@ extern "C" {
     fn harpdapple_heavy(meter: *const Meter, volume: u32) -> RecordReply;
     fn harpdapple_sum(days: *const Record, count: usize) -> SumReply;
     fn harpdapple_plan_read(bytes: *const u8, length: usize) -> PlanReply;
-    fn harpdapple_plan_write(plan: *const Plan, out: *mut u8, length: usize) -> Verdict;
+    fn harpdapple_plan_write(plan: *const Plan, out: *mut u8, length: usize) -> Acceptance;
     fn harpdapple_record_in_force(
         first: *const u8,
         first_length: usize,
@@ -286,7 +286,7 @@ struct Guarded {
 
 const GUARD: [u64; 8] = [0xA5A5_5A5A_DEAD_BEEF; 8];
 
-pub fn run(meter: &mut Meter, call: &Call) -> Reply {
+pub fn run(meter: &mut Meter, call: &Call) -> CodesReply {
     let mut lent = Guarded { before: GUARD, meter: *meter, after: GUARD };
     let reply = run_lent(&mut lent.meter, call);
     assert!(lent.before == GUARD && lent.after == GUARD, "the library wrote beside the meter: {call}");
@@ -295,7 +295,7 @@ pub fn run(meter: &mut Meter, call: &Call) -> Reply {
 }
 
 /// The call on the meter where it lies, with no guard bytes and no copy: what a host does.
-pub fn run_lent(meter: *mut Meter, call: &Call) -> Reply {
+pub fn run_lent(meter: *mut Meter, call: &Call) -> CodesReply {
     unsafe {
         match *call {
             Call::Pulses { stamp, count } => harpdapple_pulses(meter, PulsesCall { stamp, count }),
@@ -305,7 +305,7 @@ pub fn run_lent(meter: *mut Meter, call: &Call) -> Reply {
             Call::Load { stamp, slot, ref bytes } => {
                 harpdapple_load(meter, LoadCall { stamp, slot }, bytes.as_ptr(), bytes.len())
             }
-            Call::Alarms { stamp, one, two } => harpdapple_alarms(meter, AlarmsCall { stamp, one, two }),
+            Call::Alarms { stamp, alarm_1, alarm_2 } => harpdapple_alarms(meter, AlarmsCall { stamp, alarm_1, alarm_2 }),
             Call::Command { stamp, code } => harpdapple_command(meter, CommandCall { stamp, code }),
             Call::Key { stamp } => harpdapple_key(meter, KeyCall { stamp }),
             Call::Tick { stamp } => harpdapple_tick(meter, TickCall { stamp }),
@@ -361,7 +361,7 @@ pub fn plan_read(bytes: &[u8]) -> PlanReply {
     unsafe { harpdapple_plan_read(bytes.as_ptr(), bytes.len()) }
 }
 
-pub fn plan_write(plan: &Plan, out: &mut [u8]) -> Verdict {
+pub fn plan_write(plan: &Plan, out: &mut [u8]) -> Acceptance {
     unsafe { harpdapple_plan_write(plan, out.as_mut_ptr(), out.len()) }
 }
 

@@ -14,7 +14,7 @@ mod edges;
 mod journals;
 mod ledger;
 mod library;
-mod marks;
+mod situations;
 mod meters;
 mod model;
 mod plan;
@@ -23,18 +23,18 @@ mod random;
 mod records;
 mod runs;
 mod stamps;
-mod tally;
+mod seen;
 mod worked;
 
 use std::process::ExitCode;
-use tally::Tally;
+use seen::Seen;
 
 /// Seeds of each part are 1 to this.
 const LISTS: u64 = 30_000;
 const METERS: u64 = 9_000;
 const RECORDS: u64 = 10_000;
 
-type Run = fn(u64, &mut Tally) -> Result<(), runs::Failure>;
+type Run = fn(u64, &mut Seen) -> Result<(), runs::Failure>;
 
 /// The parts, each a run for one seed.
 const PARTS: [(&str, u64, Run); 3] =
@@ -48,8 +48,8 @@ fn main() -> ExitCode {
     }
     let counts = arguments == ["counts"];
     let whole = counts || arguments.is_empty();
-    let mut tally = Tally::default();
-    if let Err(difference) = worked::sums(&mut tally) {
+    let mut seen = Seen::default();
+    if let Err(difference) = worked::sums(&mut seen) {
         println!("model: a worked sum of document 01 fails, {difference}");
         return ExitCode::FAILURE;
     }
@@ -65,17 +65,17 @@ fn main() -> ExitCode {
         };
         println!("{name}: seeds {} to {}", seeds.start(), seeds.end());
         for seed in seeds {
-            if let Err(failure) = run(seed, &mut tally) {
+            if let Err(failure) = run(seed, &mut seen) {
                 println!("model: they differ, {name} of seed {seed}, {failure}");
                 return ExitCode::FAILURE;
             }
         }
     }
-    tally.print();
+    seen.print();
     if counts {
-        tally.print_marks();
+        seen.print_situations();
     }
-    let missing = if whole { tally.missing(&runs::marks()) } else { vec![] };
+    let missing = if whole { seen.missing(&runs::situations()) } else { vec![] };
     if !missing.is_empty() {
         println!("model: never met: {}", missing.join("; "));
         return ExitCode::FAILURE;

@@ -39,16 +39,16 @@ pub fn good(r: &mut Random) -> Meter {
     let total = meter.volumes.total as u64;
     meter.volumes.unpriced = r.upto(total) as u32;
     meter.account.serial = r.pick(&[0, 1, 2, 300, 65_534, 65_535]);
-    let (one, two) = r.pick(&[(20, 5), (2, 1), (MOST_ALARM, MOST_ALARM - 1), (50, 49)]);
-    (meter.account.alarm_one, meter.account.alarm_two) = (one, two);
+    let (alarm_1, alarm_2) = r.pick(&[(20, 5), (2, 1), (MOST_ALARM, MOST_ALARM - 1), (50, 49)]);
+    (meter.account.alarm_1, meter.account.alarm_2) = (alarm_1, alarm_2);
     meter.account.balance = balance(r, &meter);
     let in_force = plans(r, &mut meter, date);
     meter.slots.usage = if in_force { r.upto(total) as u32 } else { 0 };
     meter.valve.open = in_force as u8 & r.below(2) as u8;
     meter.valve.allow = r.below(2) as u8;
     for i in 0..2 {
-        let tally = library::Tally { volume: r.upto(total) as u32, charge: r.upto(limit(&meter) as u64) };
-        *(if i == 0 { &mut meter.journal.day } else { &mut meter.journal.month }) = tally;
+        let period = library::OpenPeriod { volume: r.upto(total) as u32, charge: r.upto(limit(&meter) as u64) };
+        *(if i == 0 { &mut meter.records.day } else { &mut meter.records.month }) = period;
     }
     journal(r, &mut meter);
     meter
@@ -57,19 +57,19 @@ pub fn good(r: &mut Random) -> Meter {
 /// The fresh meter, with anything in the records that it does not hold.
 pub fn fresh(r: &mut Random) -> Meter {
     let mut meter = library::fresh();
-    meter.journal.days.held = std::array::from_fn(|_| anything(r));
-    meter.journal.months.held = std::array::from_fn(|_| anything(r));
+    meter.records.days.held = std::array::from_fn(|_| anything(r));
+    meter.records.months.held = std::array::from_fn(|_| anything(r));
     meter
 }
 
 fn journal(r: &mut Random, meter: &mut Meter) {
     let (days, months) = (r.upto(DAYS as u64) as usize, r.upto(MONTHS as u64) as usize);
-    (meter.journal.days.count, meter.journal.months.count) = (days, months);
+    (meter.records.days.count, meter.records.months.count) = (days, months);
     for k in 0..DAYS {
-        meter.journal.days.held[k] = if k < days { held(r, meter) } else { anything(r) };
+        meter.records.days.held[k] = if k < days { held(r, meter) } else { anything(r) };
     }
     for k in 0..MONTHS {
-        meter.journal.months.held[k] = if k < months { held(r, meter) } else { anything(r) };
+        meter.records.months.held[k] = if k < months { held(r, meter) } else { anything(r) };
     }
 }
 
@@ -81,12 +81,12 @@ fn plans(r: &mut Random, meter: &mut Meter, date: Date) -> bool {
         0 => [None, None],
         1 => [Some(one), None],
         2 => [None, Some(one)],
-        3 if !one.meets(&two, date) => [Some(two), Some(one)],
-        _ if !one.meets(&two, date) => [Some(one), Some(two)],
+        3 if !one.both_in_force(&two, date) => [Some(two), Some(one)],
+        _ if !one.both_in_force(&two, date) => [Some(one), Some(two)],
         _ => [Some(one), None],
     };
-    meter.slots.one = slot(r, plans[0]);
-    meter.slots.two = slot(r, plans[1]);
+    meter.slots.slot_1 = slot(r, plans[0]);
+    meter.slots.slot_2 = slot(r, plans[1]);
     plans.iter().flatten().any(|plan| plan.in_force(date))
 }
 

@@ -8,36 +8,36 @@ use crate::model::{self, Meter, Record};
 use crate::plan::{Plan, MOST, RECORD_BYTES};
 use crate::random::Random;
 use crate::records;
-use crate::tally::Tally;
+use crate::seen::Seen;
 use std::collections::VecDeque;
 
 /// One of the queries on the pair's meter, at random.
-pub fn ask(r: &mut Random, pair: &Pair, tally: &mut Tally) -> Result<(), Difference> {
+pub fn ask(r: &mut Random, pair: &Pair, seen: &mut Seen) -> Result<(), Difference> {
     let before = pair.host;
     match r.below(5) {
-        0 => step(pair, tally)?,
-        1 => display(pair, tally)?,
-        2 => day(r, pair, tally)?,
-        3 => month(r, pair, tally)?,
-        _ => heavy(r, pair, tally)?,
+        0 => step(pair, seen)?,
+        1 => display(pair, seen)?,
+        2 => day(r, pair, seen)?,
+        3 => month(r, pair, seen)?,
+        _ => heavy(r, pair, seen)?,
     }
     same("the meter after a query", &pair.host, &before)
 }
 
 /// All of them.
-pub fn ask_all(r: &mut Random, pair: &Pair, tally: &mut Tally) -> Result<(), Difference> {
-    step(pair, tally)?;
-    display(pair, tally)?;
-    day(r, pair, tally)?;
-    month(r, pair, tally)?;
-    heavy(r, pair, tally)
+pub fn ask_all(r: &mut Random, pair: &Pair, seen: &mut Seen) -> Result<(), Difference> {
+    step(pair, seen)?;
+    display(pair, seen)?;
+    day(r, pair, seen)?;
+    month(r, pair, seen)?;
+    heavy(r, pair, seen)
 }
 
 fn good(pair: &Pair) -> Result<&Meter, u8> {
     pair.model.as_ref().map_err(|_| 0)
 }
 
-fn step(pair: &Pair, tally: &mut Tally) -> Result<(), Difference> {
+fn step(pair: &Pair, seen: &mut Seen) -> Result<(), Difference> {
     let answer = good(pair).and_then(Meter::step);
     let mut wanted = library::StepReply::default();
     match answer {
@@ -47,17 +47,17 @@ fn step(pair: &Pair, tally: &mut Tally) -> Result<(), Difference> {
         }
         Err(refusal) => wanted.refusal = refusal,
     }
-    count(tally, Operation::Step, answer.err());
+    count(seen, Operation::Step, answer.err());
     same("step", &library::step(&pair.host), &wanted)
 }
 
-fn display(pair: &Pair, tally: &mut Tally) -> Result<(), Difference> {
+fn display(pair: &Pair, seen: &mut Seen) -> Result<(), Difference> {
     let answer = good(pair).map(Meter::display);
     let wanted = match answer {
         Ok(shown) => library::DisplayReply { accepted: 1, refusal: 0, shown },
         Err(refusal) => library::DisplayReply { refusal, ..Default::default() },
     };
-    count(tally, Operation::Display, answer.err());
+    count(seen, Operation::Display, answer.err());
     same("display", &library::display(&pair.host), &wanted)?;
     let balance = pair.host.account.balance;
     same("what is shown of the balance, whatever the meter", &library::shown(balance), &balance.div_euclid(100))
@@ -71,8 +71,8 @@ fn place(r: &mut Random, held: usize) -> usize {
 fn held_reply(place: usize, record: &Record) -> library::RecordReply {
     let held = library::Record {
         date: record.date,
-        volume: record.tally.volume as u32,
-        charge: record.tally.charge as u64,
+        volume: record.period.volume as u32,
+        charge: record.period.charge as u64,
         closing: record.closing,
     };
     library::RecordReply { accepted: 1, refusal: 0, place, held }
@@ -90,29 +90,29 @@ fn refusal_of(reply: &library::RecordReply) -> Option<u8> {
     (reply.accepted == 0).then_some(reply.refusal)
 }
 
-fn day(r: &mut Random, pair: &Pair, tally: &mut Tally) -> Result<(), Difference> {
+fn day(r: &mut Random, pair: &Pair, seen: &mut Seen) -> Result<(), Difference> {
     let records = good(pair).map(|meter| &meter.days);
     let k = place(r, records.map_or(0, VecDeque::len));
     let wanted = record_reply(records, k);
-    count(tally, Operation::Day, refusal_of(&wanted));
+    count(seen, Operation::Day, refusal_of(&wanted));
     same(&format!("day record {k}"), &library::day(&pair.host, k), &wanted)
 }
 
-fn month(r: &mut Random, pair: &Pair, tally: &mut Tally) -> Result<(), Difference> {
+fn month(r: &mut Random, pair: &Pair, seen: &mut Seen) -> Result<(), Difference> {
     let records = good(pair).map(|meter| &meter.months);
     let k = place(r, records.map_or(0, VecDeque::len));
     let wanted = record_reply(records, k);
-    count(tally, Operation::Month, refusal_of(&wanted));
+    count(seen, Operation::Month, refusal_of(&wanted));
     same(&format!("month record {k}"), &library::month(&pair.host, k), &wanted)
 }
 
 /// Loose: any held day that is heavy enough; 27 exactly if there is none.
-fn heavy(r: &mut Random, pair: &Pair, tally: &mut Tally) -> Result<(), Difference> {
+fn heavy(r: &mut Random, pair: &Pair, seen: &mut Seen) -> Result<(), Difference> {
     let days = good(pair).map(|meter| &meter.days);
-    let most = days.map_or(0, |days| days.iter().map(|day| day.tally.volume).max().unwrap_or(0)) as u32;
+    let most = days.map_or(0, |days| days.iter().map(|day| day.period.volume).max().unwrap_or(0)) as u32;
     let volume = r.pick(&[0, 1, most, most, most.saturating_add(1), most / 2, u32::MAX]);
     let reply = library::heavy(&pair.host, volume);
-    let enough = |day: &&Record| day.tally.volume >= volume as u64;
+    let enough = |day: &&Record| day.period.volume >= volume as u64;
     let wanted = match days {
         Err(refusal) => library::RecordReply { refusal, ..Default::default() },
         Ok(days) if days.iter().find(enough).is_none() => library::RecordReply { refusal: 27, ..Default::default() },
@@ -121,12 +121,12 @@ fn heavy(r: &mut Random, pair: &Pair, tally: &mut Tally) -> Result<(), Differenc
             None => return Err(format!("heavy day of {volume}: not held or too light\nlibrary: {reply:?}")),
         },
     };
-    count(tally, Operation::Heavy, refusal_of(&wanted));
+    count(seen, Operation::Heavy, refusal_of(&wanted));
     same(&format!("heavy day of {volume}"), &reply, &wanted)
 }
 
 /// The sum over a host's list, which need not be records of any meter.
-pub fn sum(r: &mut Random, tally: &mut Tally) -> Result<(), Difference> {
+pub fn sum(r: &mut Random, seen: &mut Seen) -> Result<(), Difference> {
     let length = r.pick(&[0, 1, 2, 30, 61, 62, 62, 63, 64, 200]);
     let mut days = vec![library::Record::default(); length];
     for day in &mut days {
@@ -145,7 +145,7 @@ pub fn sum(r: &mut Random, tally: &mut Tally) -> Result<(), Difference> {
         Ok(volume) => library::SumReply { accepted: 1, refusal: 0, volume },
         Err(refusal) => library::SumReply { refusal, ..Default::default() },
     };
-    count(tally, Operation::Sum, answer.err());
+    count(seen, Operation::Sum, answer.err());
     same(&format!("sum over {length} records with volumes {volumes:?}"), &library::sum(&days), &wanted)?;
     same("the lent records after a sum", &days, &before)
 }
@@ -160,7 +160,7 @@ fn any_record(r: &mut Random, near: Date) -> Vec<u8> {
 }
 
 /// Reads a record; a good one, written again, gives the same bytes in every field that is read.
-pub fn read(r: &mut Random, tally: &mut Tally) -> Result<(), Difference> {
+pub fn read(r: &mut Random, seen: &mut Seen) -> Result<(), Difference> {
     let near = Date::at(r.below(36_000) as i64);
     let bytes = any_record(r, near);
     let before = bytes.clone();
@@ -169,7 +169,7 @@ pub fn read(r: &mut Random, tally: &mut Tally) -> Result<(), Difference> {
         Ok(plan) => library::PlanReply { accepted: 1, refusal: 0, plan: plan.to_host() },
         Err(refusal) => library::PlanReply { refusal, ..Default::default() },
     };
-    count(tally, Operation::Read, answer.err());
+    count(seen, Operation::Read, answer.err());
     let reply = library::plan_read(&bytes);
     same(&format!("reading {}", hex(&bytes)), &reply, &wanted)?;
     same("the lent record after reading", &bytes, &before)?;
@@ -190,7 +190,7 @@ fn round(reply: library::PlanReply, plan: &Plan, bytes: &[u8]) -> Result<(), Dif
 }
 
 /// Writes a plan into a buffer that lies between guard bytes.
-pub fn write(r: &mut Random, tally: &mut Tally) -> Result<(), Difference> {
+pub fn write(r: &mut Random, seen: &mut Seen) -> Result<(), Difference> {
     let near = Date::at(r.below(36_000) as i64);
     let plan = records::plan(r, near, records::ANY_SPAN, None);
     let mut host = records::host_plan(r, &plan);
@@ -203,18 +203,18 @@ pub fn write(r: &mut Random, tally: &mut Tally) -> Result<(), Difference> {
     let mut after = before.clone();
     let reply = library::plan_write(&host, &mut after[16..16 + length]);
     let mut wanted = before.clone();
-    let mut verdict = library::Verdict { accepted: 1, refusal: 0 };
+    let mut acceptance = library::Acceptance { accepted: 1, refusal: 0 };
     match answer {
         Ok(plan) => wanted[16..16 + length].copy_from_slice(&plan.write()),
-        Err(refusal) => verdict = library::Verdict { accepted: 0, refusal },
+        Err(refusal) => acceptance = library::Acceptance { accepted: 0, refusal },
     }
-    count(tally, Operation::Write, answer.err());
-    same(&format!("writing {host:?} into {length} bytes"), &reply, &verdict)?;
+    count(seen, Operation::Write, answer.err());
+    same(&format!("writing {host:?} into {length} bytes"), &reply, &acceptance)?;
     same(&format!("bytes after writing {host:?} into {length} bytes"), &hex(&after), &hex(&wanted))
 }
 
 /// Which of two records is in force on a date, good or bad.
-pub fn in_force(r: &mut Random, tally: &mut Tally) -> Result<(), Difference> {
+pub fn in_force(r: &mut Random, seen: &mut Seen) -> Result<(), Difference> {
     let near = Date::at(r.below(36_000) as i64);
     let mut first = any_record(r, near);
     let mut second = any_record(r, near);
@@ -237,7 +237,7 @@ pub fn in_force(r: &mut Random, tally: &mut Tally) -> Result<(), Difference> {
         Err((refusal, _)) => library::PartReply { refusal, ..Default::default() },
     };
     let own = if matches!(answer, Err((_, true))) { Operation::InForceSecond } else { Operation::InForceFirst };
-    count(tally, own, answer.err().map(|(refusal, _)| refusal));
+    count(seen, own, answer.err().map(|(refusal, _)| refusal));
     let what = format!("record in force on {date} of {} and {}", hex(&first), hex(&second));
     same(&what, &library::record_in_force(&first, &second, date), &wanted)?;
     same("the lent records after asking which is in force", &(first, second), &before)

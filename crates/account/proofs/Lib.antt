@@ -1,3 +1,3 @@
-pub mod Notes
-pub mod Kept
-pub mod Falls
+pub mod CodesNoted
+pub mod BoundsKept
+pub mod ThresholdsCut

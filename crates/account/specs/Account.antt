@@ -4,9 +4,9 @@ use Rattle.std.specs.Int.Signed.{le_z, lt_z}
 use Rattle.units.specs.declared.Millionths.{Millionths}
 use Rattle.units.specs.Volume.{price}
 use Rattle.units.specs.Money.{money, in_millionths, credited, debited, takes, in_bounds, highest_balance}
-use Rattle.answer.specs.declared.Refusal.{Refusal}
-use Rattle.answer.specs.declared.Refusal.TheVariants.{Serial, SerialAgain, SerialBelow, SerialAbove, NoAmount, Balance}
-use Rattle.answer.specs.Answer.{need}
+use Rattle.refusal.specs.declared.Refusal.{Refusal}
+use Rattle.refusal.specs.declared.Refusal.TheVariants.{Serial, SerialAgain, SerialBelow, SerialAbove, NoAmount, Balance}
+use Rattle.refusal.specs.Refusal.{need}
 use Rattle.account.specs.declared.Account.{Account}
 
 -- the highest serial, and the highest alarm in whole yuan
@@ -18,11 +18,11 @@ highest_alarm = 999999
 
 -- "Fresh: .. all amounts 0, .. alarms 20 and 5 yuan": no serial yet
 abbrev pub fresh_account : Account
-fresh_account = record { balance = money (pos 0); serial = 0; one = 20; two = 5 }
+fresh_account = record { balance = money (pos 0); serial = 0; alarm_1 = 20; alarm_2 = 5 }
 
 -- the account with another balance
 abbrev pub with_balance : Account → Millionths → Account
-with_balance a b = record { balance = b; serial = a.serial; one = a.one; two = a.two }
+with_balance a b = record { balance = b; serial = a.serial; alarm_1 = a.alarm_1; alarm_2 = a.alarm_2 }
 
 -- "15, serial 0 or above 65,535; 16, the last serial again; 17, below it; 18, more than one above; 19, amount 0; 20, balance would
 -- pass 999,999.99 yuan"
@@ -40,28 +40,28 @@ abbrev pub recharged : Account → ℕ → ℕ → Account
 recharged a amount serial = record {
   balance = credited a.balance (in_millionths amount);
   serial = serial;
-  one = a.one;
-  two = a.two;
+  alarm_1 = a.alarm_1;
+  alarm_2 = a.alarm_2;
 }
 
 -- "23, unless 0 < alarm 2 < alarm 1 and alarm 1 at most 999,999"
 unfoldable pub alarms_good : ℕ → ℕ → Bool
-alarms_good one two = ltb 0 two && (ltb two one && leb one highest_alarm)
+alarms_good alarm_1 alarm_2 = ltb 0 alarm_2 && (ltb alarm_2 alarm_1 && leb alarm_1 highest_alarm)
 
 abbrev pub alarmed : Account → ℕ → ℕ → Account
-alarmed a one two = record { balance = a.balance; serial = a.serial; one = one; two = two }
+alarmed a alarm_1 alarm_2 = record { balance = a.balance; serial = a.serial; alarm_1 = alarm_1; alarm_2 = alarm_2 }
 
 -- "the balance falls by"
 abbrev pub charged : Account → ℕ → Account
-charged a cost = with_balance a (debited a.balance cost)
+charged a added_charge = with_balance a (debited a.balance added_charge)
 
 -- "last serial, alarms .. are as the refusals allow", and the balance in its bounds
 unfoldable pub account_good : Account → ℕ → Bool
 account_good a total =
-    leb a.serial highest_serial && (alarms_good a.one a.two && in_bounds highest_balance a.balance.0 total)
+    leb a.serial highest_serial && (alarms_good a.alarm_1 a.alarm_2 && in_bounds highest_balance a.balance.0 total)
 
 -- the account of a fresh meter; its balance is 0
 unfoldable pub is_fresh_account : Account → Bool
 is_fresh_account a =
     le_z a.balance.0 (pos 0) && (not (lt_z a.balance.0 (pos 0))
-    && (eqb a.serial fresh_account.serial && (eqb a.one fresh_account.one && eqb a.two fresh_account.two)))
+    && (eqb a.serial fresh_account.serial && (eqb a.alarm_1 fresh_account.alarm_1 && eqb a.alarm_2 fresh_account.alarm_2)))

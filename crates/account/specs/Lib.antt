@@ -1,4 +1,4 @@
 pub mod Codes
 pub mod Valve
 pub mod Account
-pub mod Fall
+pub mod Thresholds

@@ -23,7 +23,7 @@ impl Codes {
     {
         Codes {
             count: 0,
-            said: [0; Codes::MOST],
+            list: [0; Codes::MOST],
         }
     }
 
@@ -37,7 +37,7 @@ impl Codes {
             return self;
         }
         let mut next = self;
-        next.said[n] = u32::from(event);
+        next.list[n] = u32::from(event);
         next.count = n + 1;
         next
     }

@@ -7,9 +7,9 @@ mod thresholds; // thresholds.rt: the valve, and the thresholds that close it
 ghost use Rattle.std.specs.Prelude.{◌≡◌, ◌≤◌, ◌<◌, ◌^◌};
 ghost use Rattle.units.specs.Money.{Small};
 ghost use Rattle.account.specs.Account.{highest_serial, fresh_account, is_fresh_account, recharge_refusal, recharged, alarms_good, alarmed, charged, account_good};
-ghost use Rattle.account.specs.Fall.{fall_of};
+ghost use Rattle.account.specs.Thresholds.{crossing_of};
 
-use answer::Refusal;
+use refusal::Refusal;
 use units::{Charge, Hundredths, Millionths, TenThousandths};
 
 // The balance, the last accepted serial (0 before the first), and the two alarms in whole yuan. A host
@@ -19,8 +19,8 @@ use units::{Charge, Hundredths, Millionths, TenThousandths};
 pub struct Account {
     pub balance: Millionths,
     pub serial: u32,
-    pub one: u32,
-    pub two: u32,
+    pub alarm_1: u32,
+    pub alarm_2: u32,
 }
 
 // The station mark, "allow" or "forbid", and the valve.
@@ -40,8 +40,8 @@ pub enum Event {
     Recharged = 0x21,
     Set = 0x27,
     Commanded = 0x2B,
-    AtAlarmOne = 0x2E,
-    AtAlarmTwo = 0x2F,
+    AtAlarm1 = 0x2E,
+    AtAlarm2 = 0x2F,
     AtZero = 0x30,
     InDebt = 0x33,
 }
@@ -51,29 +51,29 @@ pub enum Event {
 #[derive(Clone, Copy, PartialEq, Eq)]
 pub struct Codes {
     pub count: usize,
-    pub said: [u32; Codes::MOST],
+    pub list: [u32; Codes::MOST],
 }
 
 // A valve on its way past the thresholds, with the codes so far.
 #[derive(Clone, Copy, PartialEq, Eq)]
-pub struct Fall {
+pub struct Crossing {
     pub opened: bool,
     pub codes: Codes,
 }
 
 // Refusal 23 unless this holds. The C header names each alarm, so they go as two numbers.
 #[tactic(auto, unfolding(crate::specs::Account::alarms_good))]
-pub fn alarms_good(one: u32, two: u32) -> bool
-    ensures { result ≡ alarms_good one two }
+pub fn alarms_good(alarm_1: u32, alarm_2: u32) -> bool
+    ensures { result ≡ alarms_good alarm_1 alarm_2 }
 {
-    (0 < two) & ((two < one) & (one <= Account::MOST_ALARM))
+    (0 < alarm_2) & ((alarm_2 < alarm_1) & (alarm_1 <= Account::MOST_ALARM))
 }
 
 impl Account {
     // The alarms of a fresh meter and the highest, in whole yuan; the highest serial and the highest balance.
-    pub const ALARM_ONE: u32 = 20;
+    pub const ALARM_1: u32 = 20;
 
-    pub const ALARM_TWO: u32 = 5;
+    pub const ALARM_2: u32 = 5;
 
     pub const MOST_ALARM: u32 = 999_999;
 
@@ -88,8 +88,8 @@ impl Account {
         Account {
             balance: Millionths(0),
             serial: 0,
-            one: Account::ALARM_ONE,
-            two: Account::ALARM_TWO,
+            alarm_1: Account::ALARM_1,
+            alarm_2: Account::ALARM_2,
         }
     }
 
@@ -107,25 +107,26 @@ impl Account {
         ensures { result ≡ account_good self total.0 }
     {
         (self.serial <= Account::MOST_SERIAL)
-            & (alarms_good(self.one, self.two) & self.balance.in_bounds(Account::TOP, total))
+            & (alarms_good(self.alarm_1, self.alarm_2)
+                & self.balance.in_bounds(Account::TOP, total))
     }
 
     // Refusals 15 to 20, in their order.
     #[tactic(auto, unfolding(crate::specs::Account::recharge_refusal))]
-    pub fn vet(self, amount: TenThousandths, serial: u32) -> Result<(), Refusal>
+    pub fn recharge_refusal(self, amount: TenThousandths, serial: u32) -> Result<(), Refusal>
         requires small { Small self.balance.0 }
         requires serial_bound { self.serial ≤ highest_serial }
         ensures { result ≡ recharge_refusal self amount.0 serial }
     {
-        answer::need(
+        refusal::need(
             (1 <= serial) & (serial <= Account::MOST_SERIAL),
             Refusal::Serial,
         )?;
-        answer::need(serial != self.serial, Refusal::SerialAgain)?;
-        answer::need(self.serial <= serial, Refusal::SerialBelow)?;
-        answer::need(serial <= self.serial + 1, Refusal::SerialAbove)?;
-        answer::need(1 <= amount.0, Refusal::NoAmount)?;
-        answer::need(self.balance.takes(Account::TOP, amount), Refusal::Balance)
+        refusal::need(serial != self.serial, Refusal::SerialAgain)?;
+        refusal::need(self.serial <= serial, Refusal::SerialBelow)?;
+        refusal::need(serial <= self.serial + 1, Refusal::SerialAbove)?;
+        refusal::need(1 <= amount.0, Refusal::NoAmount)?;
+        refusal::need(self.balance.takes(Account::TOP, amount), Refusal::Balance)
     }
 
     pub fn recharged(self, amount: TenThousandths, serial: u32) -> Account
@@ -140,36 +141,40 @@ impl Account {
         }
     }
 
-    pub fn alarmed(self, one: u32, two: u32) -> Account
-        ensures { result ≡ alarmed self one two }
+    pub fn alarmed(self, alarm_1: u32, alarm_2: u32) -> Account
+        ensures { result ≡ alarmed self alarm_1 alarm_2 }
     {
-        Account { one, two, ..self }
+        Account {
+            alarm_1,
+            alarm_2,
+            ..self
+        }
     }
 
     // A charge is any u64 in the C layout, so that it fits is asked here and in `crosses`.
-    pub fn charged(self, cost: Charge) -> Account
+    pub fn charged(self, added_charge: Charge) -> Account
         requires small { Small self.balance.0 }
-        requires cost_bound { cost.0 < 2 ^ 62 }
-        ensures { result ≡ charged self cost.0 }
+        requires charge_bound { added_charge.0 < 2 ^ 62 }
+        ensures { result ≡ charged self added_charge.0 }
     {
         Account {
-            balance: self.balance - cost,
+            balance: self.balance - added_charge,
             ..self
         }
     }
 
     // The balance falls to `is`: the valve and the codes.
-    pub fn fall(self, is: Millionths, opened: bool, codes: Codes) -> Fall
-        ensures { result ≡ fall_of self is.0 opened codes }
+    pub fn crossing(self, is: Millionths, opened: bool, codes: Codes) -> Crossing
+        ensures { result ≡ crossing_of self is.0 opened codes }
     {
         let was = self.balance;
-        let one = thresholds::crosses(was, is, Charge::yuan(self.one));
-        let two = thresholds::crosses(was, is, Charge::yuan(self.two));
+        let alarm_1 = thresholds::crosses(was, is, Charge::yuan(self.alarm_1));
+        let alarm_2 = thresholds::crosses(was, is, Charge::yuan(self.alarm_2));
         let zero = thresholds::crosses(was, is, Charge(0));
-        Fall { opened, codes }
-            .strike(one, Event::AtAlarmOne, false)
-            .strike(two, Event::AtAlarmTwo, true)
-            .strike(zero, Event::AtZero, true)
-            .strike(thresholds::sinks(was, is), Event::InDebt, false)
+        Crossing { opened, codes }
+            .past_threshold(alarm_1, Event::AtAlarm1, false)
+            .past_threshold(alarm_2, Event::AtAlarm2, true)
+            .past_threshold(zero, Event::AtZero, true)
+            .past_threshold(thresholds::goes_below_zero(was, is), Event::InDebt, false)
     }
 }

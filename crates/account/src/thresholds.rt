@@ -3,9 +3,9 @@ ghost use Rattle.std.specs.Prelude.{◌≡◌, not, ◌&&◌, ◌<◌, ◌^◌, 
 ghost use Rattle.std.specs.Int.Signed.{le_z, lt_z};
 ghost use Rattle.account.specs.Codes.{note_all, event_code};
 ghost use Rattle.account.specs.Valve.{fresh_valve, is_fresh_valve, valve_set, valve_kept, commanded, command_codes, key_codes};
-ghost use Rattle.account.specs.Fall.{struck};
+ghost use Rattle.account.specs.Thresholds.{past_threshold};
 
-use crate::{Codes, Event, Fall, Valve};
+use crate::{Codes, Crossing, Event, Valve};
 use units::{Charge, Millionths, Signed};
 
 impl Valve {
@@ -76,24 +76,24 @@ pub(crate) fn crosses(was: Millionths, is: Millionths, limit: Charge) -> bool
 }
 
 // Whether a balance goes below zero.
-pub(crate) fn sinks(was: Millionths, is: Millionths) -> bool
+pub(crate) fn goes_below_zero(was: Millionths, is: Millionths) -> bool
     ensures { result ≡ (not (lt_z was.0 (pos 0)) && lt_z is.0 (pos 0)) }
 {
     !was.negative() & is.negative()
 }
 
-impl Fall {
+impl Crossing {
     // One threshold.
-    #[tactic(auto, unfolding(crate::specs::Codes::note_all, crate::specs::Fall::valve_after, crate::specs::Fall::mark_codes))]
-    pub(crate) fn strike(self, hit: bool, event: Event, closes: bool) -> Fall
-        ensures { result ≡ struck self hit (event_code event) closes }
+    #[tactic(auto, unfolding(crate::specs::Codes::note_all, crate::specs::Thresholds::valve_after, crate::specs::Thresholds::threshold_codes))]
+    pub(crate) fn past_threshold(self, hit: bool, event: Event, closes: bool) -> Crossing
+        ensures { result ≡ past_threshold self hit (event_code event) closes }
     {
         if !hit {
             return self;
         }
         let shuts = closes & self.opened;
         let codes = self.codes.note(event).note_if(shuts, Event::ValveClosed);
-        Fall {
+        Crossing {
             opened: self.opened & !closes,
             codes,
         }

@@ -12,7 +12,7 @@ use Rattle.calendar.specs.declared.Cycle.TheVariants.{Month, Quarter, Year}
 use Rattle.calendar.specs.Date.{year_of, month_of, is_date}
 use Rattle.calendar.specs.DayNumber.{day_number}
 use Rattle.calendar.specs.Cycle.{month_start, quarter_month, quarter_start, year_start, cycle_start, run_of}
-use Rattle.answer.proofs.Tests.{cases, either}
+use Rattle.refusal.proofs.Tests.{cases, either}
 use Rattle.calendar.proofs.Days.{number-keeps}
 
 -- a later date's month does not start before

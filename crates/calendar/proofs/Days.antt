@@ -7,7 +7,7 @@ use lib.Dec.{leb, ltb}
 use borrow.Author.Tests.{leb-true, leb-false, ltb-true, ltb-false}
 use Rattle.calendar.specs.Date.{year_of, month_of, day_of, first_date, last_date, days_in, is_day, is_date}
 use Rattle.calendar.specs.DayNumber.{days_of_months, days_of_years, day_number}
-use Rattle.answer.proofs.Tests.{cases, split}
+use Rattle.refusal.proofs.Tests.{cases, split}
 use Rattle.calendar.proofs.Lengths.{months-more}
 
 -- the parts of a real date

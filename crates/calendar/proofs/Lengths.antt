@@ -8,7 +8,7 @@ use lib.Dec.{eqb}
 use borrow.Author.Tests.{eqb-true, eqb-false}
 use Rattle.calendar.specs.Date.{year_of, month_of, is_leap, is_short, days_in}
 use Rattle.calendar.specs.DayNumber.{days_of_months, days_of_years, day_number}
-use Rattle.answer.proofs.Tests.{cases}
+use Rattle.refusal.proofs.Tests.{cases}
 
 -- a month has 31 days at most
 pub month-bound : (y m : ℕ) → days_in y m ≤ 31

@@ -7,7 +7,7 @@ use lib.Dec.{leb, ltb, eqb}
 use borrow.Author.Tests.{ltb-true, eqb-true}
 use Rattle.calendar.specs.Stamp.{not_before}
 use Rattle.calendar.specs.declared.Stamp.{Stamp}
-use Rattle.answer.proofs.Tests.{cases, split}
+use Rattle.refusal.proofs.Tests.{cases, split}
 
 pub not-before-date : (a b : Stamp) → not_before a b ≡ true → a.date ≤ b.date
 unfolding not_before

@@ -1,8 +1,8 @@
 -- Document 01, "Dates": "A stamp is a date and a second, 0 to 86,399. Second 0 belongs to the day that it begins."
 use Rattle.std.specs.Prelude.{Bool, ◌&&◌, ◌||◌, ℕ, leb, ltb, eqb, Result, Ok}
-use Rattle.answer.specs.declared.Refusal.{Refusal}
-use Rattle.answer.specs.declared.Refusal.TheVariants.{Stamp as BadStamp}
-use Rattle.answer.specs.Answer.{need}
+use Rattle.refusal.specs.declared.Refusal.{Refusal}
+use Rattle.refusal.specs.declared.Refusal.TheVariants.{Stamp as BadStamp}
+use Rattle.refusal.specs.Refusal.{need}
 use Rattle.calendar.specs.Date.{is_date}
 use Rattle.calendar.specs.declared.Stamp.{Stamp}
 

@@ -7,7 +7,7 @@ ghost use Rattle.calendar.specs.Stamp.{is_stamp, dated, not_before};
 ghost use Rattle.calendar.specs.DayNumber.{days_of_months, days_of_years, day_number};
 ghost use Rattle.calendar.specs.Cycle.{cycle_named, month_start, quarter_month, quarter_start, year_start, cycle_start, run_of};
 
-use answer::{Refusal, need};
+use refusal::{Refusal, need};
 
 // The first and the last date of the calendar.
 const FIRST_DATE: u32 = 20_000_101;
@@ -103,7 +103,7 @@ impl Stamp {
 
     // Whether `next` is not before this stamp: the derived order, under a name that says which way.
     #[tactic(auto, unfolding(crate::specs::Stamp::not_before))]
-    pub fn reaches(self, next: Stamp) -> bool
+    pub fn not_before(self, next: Stamp) -> bool
         ensures { result ≡ not_before self next }
     {
         self <= next

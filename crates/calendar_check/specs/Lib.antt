@@ -1,1 +1,1 @@
-pub mod Tally
+pub mod Count

@@ -3,7 +3,7 @@
 
 ghost use Rattle.std.specs.Prelude.{◌≡◌, ◌+◌, ◌≤◌, ◌<◌};
 ghost use Rattle.calendar.specs.Date.{is_date};
-ghost use Rattle.calendar_check.specs.Tally.{Counted};
+ghost use Rattle.calendar_check.specs.Count.{Counted};
 
 use std::io;
 
@@ -28,7 +28,7 @@ struct Day {
 
 // What was found so far, and the next day that the count expects.
 #[derive(Clone, Copy)]
-struct Tally {
+struct Count {
     next: Day,
     numbers: u32,
     dates: u32,
@@ -127,16 +127,16 @@ impl Day {
     }
 }
 
-impl Tally {
-    const NOTHING: Tally = Tally {
+impl Count {
+    const NOTHING: Count = Count {
         next: Day::FIRST,
         numbers: 0,
         dates: 0,
         differences: 0,
     };
 
-    // The tally with the number n: a date if the count expects it, and no date otherwise.
-    fn with(self, n: u32) -> Tally
+    // The count with the number n: a date if the count expects it, and no date otherwise.
+    fn with(self, n: u32) -> Count
         requires counted { Counted self }
         requires numbers_bound { self.numbers < 10000000 }
         ensures { (result.numbers ≡ self.numbers + 1) × Counted result }
@@ -144,14 +144,14 @@ impl Tally {
         let day = self.next;
         let numbers = self.numbers + 1;
         if day.year < 2100 && n == day.date() {
-            return Tally {
+            return Count {
                 next: day.next(),
                 numbers,
                 dates: self.dates + 1,
                 differences: self.differences + day.differences(n),
             };
         }
-        Tally {
+        Count {
             numbers,
             differences: self.differences + u32::from(calendar::is_date(n)),
             ..self
@@ -159,8 +159,8 @@ impl Tally {
     }
 }
 
-fn tallied() -> Tally {
-    let mut t = Tally::NOTHING;
+fn counted() -> Count {
+    let mut t = Count::NOTHING;
     for n in 19_990_000..21_010_000 {
         t = t.with(n);
     }
@@ -168,7 +168,7 @@ fn tallied() -> Tally {
 }
 
 fn main(rt: HostRuntime) -> io::Result<()> {
-    let t = tallied();
+    let t = counted();
     println!(rt; "numbers {}", t.numbers)?;
     println!(rt; "dates {}", t.dates)?;
     println!(rt; "differences {}", t.differences)

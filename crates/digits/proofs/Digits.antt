@@ -5,7 +5,7 @@ use Prim.Native.Nat.{ℕ, ◌/◌, ◌%◌, ◌<◌}
 use native.Mathlib.Omega.{arith}
 use lib.Dec.{ltb}
 use borrow.Author.Tests.{lt-ltb, ltb-true}
-use Rattle.answer.proofs.Tests.{and_left, and_right}
+use Rattle.refusal.proofs.Tests.{and_left, and_right}
 use Rattle.digits.specs.Digits.{pair_of, byte_of, two_digits}
 
 -- a number that was written

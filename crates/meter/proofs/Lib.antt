@@ -1,4 +1,4 @@
-pub mod Outcomes
-pub mod Kept
-pub mod Told
-pub mod Follow
+pub mod AnswersByRefusal
+pub mod BoundsKept
+pub mod FewCodes
+pub mod FollowsRules

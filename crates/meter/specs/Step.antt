@@ -1,8 +1,8 @@
 -- Document 01, "Queries": the step query, on a meter within its bounds; on any other 0. Demand 3 speaks of its answer.
 use Rattle.std.specs.Prelude.{Result}
-use Rattle.answer.specs.declared.Refusal.{Refusal}
-use Rattle.answer.specs.declared.Refusal.TheVariants.{OutOfBounds}
-use Rattle.answer.specs.Answer.{need}
+use Rattle.refusal.specs.declared.Refusal.{Refusal}
+use Rattle.refusal.specs.declared.Refusal.TheVariants.{OutOfBounds}
+use Rattle.refusal.specs.Refusal.{need}
 use Rattle.plan.specs.declared.StepPrice.{StepPrice}
 use Rattle.slots.specs.World.{real}
 use Rattle.slots.specs.Slots.{step_on}

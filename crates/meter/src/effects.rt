@@ -10,50 +10,50 @@ ghost use Rattle.account.specs.Valve.{valve_set, key_codes};
 ghost use Rattle.meter.specs.Call.{command};
 ghost use Rattle.meter.specs.Course.{accepted_of, effect_by};
 
-use crate::{Command, Outcome};
+use crate::{Accepted, Command};
 use account::{Account, Event};
 use plan::Plan;
 use slots::SlotName;
-use state::Stage;
+use state::RegistersAndCodes;
 
 // Another account, and one more code.
 #[tactic(auto, unfolding(account::specs::Codes::note_all, state::specs::State::registers_of, state::specs::State::state_with))]
-pub(crate) fn noted(t: Stage, account: Account, event: Event) -> Outcome
+pub(crate) fn noted(t: RegistersAndCodes, account: Account, event: Event) -> Accepted
     ensures { result ≡ accepted_of (registers_of (with_account (alone t.registers) account)) (note_all t.codes (event_code event ∷ [])) }
 {
     let mut next = t;
     next.registers.account = account;
     next.codes = t.codes.note(event);
-    Outcome::from(next)
+    Accepted::from(next)
 }
 
 #[tactic(auto, unfolding(account::specs::Codes::note_all, state::specs::State::registers_of, state::specs::State::state_with))]
-pub(crate) fn loaded(t: Stage, slot: SlotName, plan: Plan) -> Outcome
+pub(crate) fn loaded(t: RegistersAndCodes, slot: SlotName, plan: Plan) -> Accepted
     ensures { result ≡ accepted_of (registers_of (with_slots (alone t.registers) (loaded t.registers.slots slot plan))) (note_all t.codes (event_code Set ∷ [])) }
 {
     let mut next = t;
     next.registers.slots = t.registers.slots.loaded(slot, plan);
     next.codes = t.codes.note(Event::Set);
-    Outcome::from(next)
+    Accepted::from(next)
 }
 
 #[tactic(auto, unfolding(crate::specs::Effects::effect_of, crate::specs::Effects::codes_of, state::specs::State::registers_of, state::specs::State::state_with))]
-pub(crate) fn commanded(t: Stage, p: Command) -> Outcome
+pub(crate) fn commanded(t: RegistersAndCodes, p: Command) -> Accepted
     ensures { result ≡ effect_by t (command p) }
 {
     let allow = p.code == 1;
     let mut next = t;
     next.registers.valve = t.registers.valve.commanded(allow);
     next.codes = t.registers.valve.command_codes(allow, t.codes);
-    Outcome::from(next)
+    Accepted::from(next)
 }
 
 #[tactic(auto, unfolding(state::specs::State::registers_of, state::specs::State::state_with))]
-pub(crate) fn opened(t: Stage) -> Outcome
+pub(crate) fn opened(t: RegistersAndCodes) -> Accepted
     ensures { result ≡ accepted_of (registers_of (with_valve (alone t.registers) (valve_set t.registers.valve true))) (note_all t.codes (key_codes t.registers.valve)) }
 {
     let mut next = t;
     next.registers.valve = t.registers.valve.set(true);
     next.codes = t.registers.valve.key_codes(t.codes);
-    Outcome::from(next)
+    Accepted::from(next)
 }

@@ -9,7 +9,7 @@ use mathlib.Core.List.{List, [], ◌∷◌}
 use lib.ListN.{get_or, length, take}
 use Rattle.std.proofs.Math.Seq.{take-nil}
 use Rattle.std.specs.List.{list_all, range_with_len}
-use Rattle.answer.proofs.Tests.{cases, split}
+use Rattle.refusal.proofs.Tests.{cases, split}
 use Rattle.plan.specs.Rules.{every}
 
 -- of n numbers from a on

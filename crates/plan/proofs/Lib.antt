@@ -1,7 +1,7 @@
 pub mod Charge
 pub mod Cycles
 pub mod Every
-pub mod Force
-pub mod Good
-pub mod Tidy
-pub mod Walk
+pub mod DaysInForce
+pub mod GoodPlan
+pub mod Cleared
+pub mod StepWalk

@@ -1,6 +1,6 @@
 pub mod Plan
 pub mod Rules
-pub mod Force
-pub mod Meeting
+pub mod InForce
+pub mod BothInForce
 pub mod Cycles
 pub mod Charge

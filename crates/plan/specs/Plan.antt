@@ -42,14 +42,14 @@ abbrev pub kept : {A : Type 0} → Plan → List A → A → ℕ → A
 kept p xs none i = cond (ltb i p.steps) (get_or xs i none) none
 
 -- "A plan is its read fields: two that agree there are the same plan." The same plan with zero in every field that is not read.
-unfoldable pub tidy : Plan → Plan
-tidy p = record {
+unfoldable pub cleared : Plan → Plan
+cleared p = record {
   start = p.start;
   end = p.end;
   steps = p.steps;
   word = cycle_word p;
-  first = cond (has_extra p) p.first 0;
-  second = cond (has_extra p) p.second 0;
+  extra1 = cond (has_extra p) p.extra1 0;
+  extra2 = cond (has_extra p) p.extra2 0;
   widths = six (kept p p.widths (volume 0));
   prices = six (kept p p.prices (price 0));
 }
@@ -61,8 +61,8 @@ no_plan = record {
   end = 0;
   steps = 0;
   word = 0;
-  first = 0;
-  second = 0;
+  extra1 = 0;
+  extra2 = 0;
   widths = replicate most_steps (volume 0);
   prices = replicate most_steps (price 0);
 }

@@ -6,9 +6,9 @@ use Rattle.calendar.specs.Date.{is_date}
 use Rattle.calendar.specs.declared.Cycle.{Cycle}
 use Rattle.calendar.specs.declared.Cycle.TheVariants.{Window, Runs}
 use Rattle.plan.specs.declared.Plan.{Plan}
-use Rattle.answer.specs.declared.Refusal.{Refusal}
-use Rattle.answer.specs.declared.Refusal.TheVariants.{Steps, CycleWord, Digits, Dates, NoDay, NoPrice}
-use Rattle.answer.specs.Answer.{need}
+use Rattle.refusal.specs.declared.Refusal.{Refusal}
+use Rattle.refusal.specs.declared.Refusal.TheVariants.{Steps, CycleWord, Digits, Dates, NoDay, NoPrice}
+use Rattle.refusal.specs.Refusal.{need}
 use Rattle.plan.specs.Plan.{most_steps, width_at, price_at, cycle, has_extra}
 
 -- every k below n
@@ -36,12 +36,12 @@ pair_good p i = eight_digits (width_at p i) && eight_digits (price_at p i)
 unfoldable pub numbers_good : Plan → Bool
 numbers_good p =
     eight_digits p.start && (eight_digits p.end
-    && (cond (has_extra p) (eight_digits p.first && eight_digits p.second) true && every (pair_good p) p.steps))
+    && (cond (has_extra p) (eight_digits p.extra1 && eight_digits p.extra2) true && every (pair_good p) p.steps))
 
 -- "5, a read date not in the calendar above": start, end, both ends of the window, the first cycle day
 abbrev pub extra_dates : Cycle → Plan → Bool
-extra_dates Window p = is_date p.first && is_date p.second
-extra_dates Runs p = is_date p.first
+extra_dates Window p = is_date p.extra1 && is_date p.extra2
+extra_dates Runs p = is_date p.extra1
 extra_dates _ p = true
 
 unfoldable pub dates_good : Plan → Bool
@@ -49,8 +49,8 @@ dates_good p = is_date p.start && (is_date p.end && extra_dates (cycle p) p)
 
 -- "6, no day in force, or days in a cycle 0"
 abbrev pub extra_days : Cycle → Plan → Bool
-extra_days Window p = ltb p.first p.second && (ltb p.start p.second && ltb p.first p.end)
-extra_days Runs p = leb 1 p.second
+extra_days Window p = ltb p.extra1 p.extra2 && (ltb p.start p.extra2 && ltb p.extra1 p.end)
+extra_days Runs p = leb 1 p.extra2
 extra_days _ p = true
 
 unfoldable pub some_day : Plan → Bool
@@ -63,8 +63,8 @@ has_price p i = leb 1 (price_at p i)
 unfoldable pub priced : Plan → Bool
 priced p = every (has_price p) p.steps
 
-unfoldable pub verdict : Plan → Result ⊤ Refusal
-verdict p =
+unfoldable pub plan_refusal : Plan → Result ⊤ Refusal
+plan_refusal p =
     need (steps_good p) Steps
     (need (word_good p) CycleWord
     (need (numbers_good p) Digits
@@ -74,4 +74,4 @@ verdict p =
 
 -- a plan that none of them refuses
 unfoldable pub is_good : Plan → Bool
-is_good p = is_ok (verdict p)
+is_good p = is_ok (plan_refusal p)

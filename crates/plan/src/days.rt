@@ -1,6 +1,6 @@
 // Document 01, "Days in force and cycles".
 ghost use Rattle.std.specs.Prelude.{◌≡◌};
-ghost use Rattle.plan.specs.Force.{in_force, first_day, end_day, meet};
+ghost use Rattle.plan.specs.InForce.{in_force, first_day, end_day, both_in_force};
 ghost use Rattle.plan.specs.Cycles.{cycle_of};
 
 use crate::Plan;
@@ -9,12 +9,12 @@ use std::ops::Range;
 
 impl Plan {
     // The days in force; with word 04 only those also in the window.
-    #[tactic(auto, unfolding(crate::specs::Force::first_day, crate::specs::Force::end_day))]
+    #[tactic(auto, unfolding(crate::specs::InForce::first_day, crate::specs::InForce::end_day))]
     fn days(self) -> Range<u32>
         ensures { result ≡ record { start = first_day self; end = end_day self } }
     {
         match self.cycle() {
-            Cycle::Window => self.start.max(self.first)..self.end.min(self.second),
+            Cycle::Window => self.start.max(self.extra1)..self.end.min(self.extra2),
             _ => self.start..self.end,
         }
     }
@@ -26,9 +26,9 @@ impl Plan {
     }
 
     // Whether some date on or after `d` is in force under both plans.
-    #[tactic(auto, unfolding(crate::specs::Force::meet))]
-    pub fn meets(self, other: Plan, d: u32) -> bool
-        ensures { result ≡ meet self other d }
+    #[tactic(auto, unfolding(crate::specs::InForce::both_in_force))]
+    pub fn both_in_force(self, other: Plan, d: u32) -> bool
+        ensures { result ≡ both_in_force self other d }
     {
         let (a, b) = (self.days(), other.days());
         d.max(a.start.max(b.start)) < a.end.min(b.end)
@@ -40,7 +40,7 @@ impl Plan {
         ensures { result ≡ cycle_of self d }
     {
         match self.cycle() {
-            Cycle::Runs => calendar::run_of(self.first, self.second, d),
+            Cycle::Runs => calendar::run_of(self.extra1, self.extra2, d),
             cycle => calendar::cycle_start(cycle, d),
         }
     }

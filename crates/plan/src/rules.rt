@@ -1,11 +1,11 @@
 // Document 01, "Read a plan" and "Write a plan": refusals 2 to 7.
 ghost use Rattle.std.specs.Prelude.{◌≡◌, true, cond, ◌&&◌, ◌≤◌, ◌<◌};
 ghost use Rattle.plan.specs.Plan.{most_steps, cycle, has_extra};
-ghost use Rattle.plan.specs.Rules.{every, eight_digits, pair_good, steps_good, word_good, numbers_good, extra_dates, dates_good, extra_days, some_day, priced, verdict, is_good};
+ghost use Rattle.plan.specs.Rules.{every, eight_digits, pair_good, steps_good, word_good, numbers_good, extra_dates, dates_good, extra_days, some_day, priced, plan_refusal, is_good};
 
 use crate::Plan;
-use answer::{Refusal, need};
 use calendar::Cycle;
+use refusal::{Refusal, need};
 
 fn eight_digits(x: u64) -> bool
     ensures { result ≡ eight_digits x }
@@ -29,9 +29,9 @@ impl Plan {
     }
 
     fn extra_good(self) -> bool
-        ensures { result ≡ cond (has_extra self) (eight_digits self.first && eight_digits self.second) true }
+        ensures { result ≡ cond (has_extra self) (eight_digits self.extra1 && eight_digits self.extra2) true }
     {
-        !self.has_extra() || (eight_digits(self.first as u64) && eight_digits(self.second as u64))
+        !self.has_extra() || (eight_digits(self.extra1 as u64) && eight_digits(self.extra2 as u64))
     }
 
     fn pairs_good(self) -> bool
@@ -55,8 +55,8 @@ impl Plan {
         ensures { result ≡ extra_dates (cycle self) self }
     {
         match self.cycle() {
-            Cycle::Window => calendar::is_date(self.first) && calendar::is_date(self.second),
-            Cycle::Runs => calendar::is_date(self.first),
+            Cycle::Window => calendar::is_date(self.extra1) && calendar::is_date(self.extra2),
+            Cycle::Runs => calendar::is_date(self.extra1),
             _ => true,
         }
     }
@@ -72,9 +72,9 @@ impl Plan {
         ensures { result ≡ extra_days (cycle self) self }
     {
         match self.cycle() {
-            Cycle::Window => (self.first < self.second)
-                & ((self.start < self.second) & (self.first < self.end)),
-            Cycle::Runs => 1 <= self.second,
+            Cycle::Window => (self.extra1 < self.extra2)
+                & ((self.start < self.extra2) & (self.extra1 < self.end)),
+            Cycle::Runs => 1 <= self.extra2,
             _ => true,
         }
     }
@@ -95,9 +95,9 @@ impl Plan {
     }
 
     // Refusals 2 to 7, in their order.
-    #[tactic(auto, unfolding(crate::specs::Rules::verdict), using(crate::proofs::Good::good))]
-    pub fn vet(self) -> Result<(), Refusal>
-        ensures { result ≡ verdict self }
+    #[tactic(auto, unfolding(crate::specs::Rules::plan_refusal), using(crate::proofs::GoodPlan::good))]
+    pub fn plan_refusal(self) -> Result<(), Refusal>
+        ensures { result ≡ plan_refusal self }
     {
         need(self.steps_good(), Refusal::Steps)?;
         need(self.word_good(), Refusal::CycleWord)?;
@@ -112,6 +112,6 @@ impl Plan {
     pub fn is_good(self) -> bool
         ensures { result ≡ is_good self }
     {
-        self.vet().is_ok()
+        self.plan_refusal().is_ok()
     }
 }

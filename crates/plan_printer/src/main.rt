@@ -3,8 +3,8 @@
 #![tactic(auto)]
 
 ghost use Rattle.std.specs.Prelude.{◌*◌, ◌≤◌, length, IfOk};
-ghost use Rattle.printer.specs.Line.{most_line};
-ghost use Rattle.printer.specs.Records.{records_in};
+ghost use Rattle.plan_line.specs.Line.{most_line};
+ghost use Rattle.plan_line.specs.Records.{records_in};
 
 use std::io;
 use std::io::{Read, Write};
@@ -36,14 +36,14 @@ fn print_some(
     requires { most_line * records_in records.old ≤ length text.old }
 {
     let got = read_full(input, records)?;
-    let n = printer::lines(&records[..got], text);
+    let n = plan_line::lines(&records[..got], text);
     output.write_all(&text[..n])?;
     Ok(got == records.len())
 }
 
 // A proved loop has to end, and nothing says that the input does. So it counts its turns, up to a
 // number that no run uses up.
-#[tactic(auto, unfolding(printer::specs::Records::records_in))]
+#[tactic(auto, unfolding(plan_line::specs::Records::records_in))]
 fn print_all(
     input: &mut impl Read,
     output: &mut impl Write,
@@ -61,9 +61,9 @@ fn print_all(
 }
 
 // Room for 992 records, and for as many lines.
-#[tactic(auto, unfolding(printer::specs::Records::records_in))]
+#[tactic(auto, unfolding(plan_line::specs::Records::records_in))]
 fn main(rt: HostRuntime) -> io::Result<()> {
     let mut records = [0u8; 65_472];
-    let mut text = [0u8; 992 * printer::MOST_LINE];
+    let mut text = [0u8; 992 * plan_line::MOST_LINE];
     print_all(&mut rt.stdin(), &mut rt.stdout(), &mut records, &mut text)
 }

@@ -1,2 +1,2 @@
-pub mod Bounds
-pub mod SoFar
+pub mod WithinBounds
+pub mod SumOfVolumes

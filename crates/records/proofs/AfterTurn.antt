@@ -7,7 +7,7 @@ use lib.ListN.{length, get_or}
 use lib.Signed.{mag}
 use Rattle.units.specs.declared.Millionths.{Millionths}
 use Rattle.calendar.specs.Cycle.{month_start}
-use Rattle.answer.proofs.Tests.{cases}
+use Rattle.refusal.proofs.Tests.{cases}
 use Rattle.records.specs.declared.Record.{Record}
 use Rattle.records.specs.declared.Periods.{Periods}
 use Rattle.records.specs.Records.{in_front}

@@ -1,6 +1,6 @@
-pub mod Parts
-pub mod Kept
-pub mod Room
+pub mod BoundsInParts
+pub mod BoundsKept
+pub mod PeriodsBounds
 pub mod Rows
 pub mod Pushed
 pub mod AfterTurn

@@ -5,7 +5,7 @@ use Prim.Native.Nat.{ℕ, zero, suc, ◌+◌, ◌*◌, ◌≤◌, ◌<◌}
 use native.Mathlib.Omega.{arith}
 use lib.ListN.{length, get_or}
 use Rattle.std.specs.Prelude.{Ok, Err}
-use Rattle.answer.specs.declared.Refusal.TheVariants.{NotHeld}
+use Rattle.refusal.specs.declared.Refusal.TheVariants.{NotHeld}
 use Rattle.records.specs.declared.Record.{Record}
 use Rattle.records.specs.declared.Shelf.{Shelf}
 use Rattle.records.specs.declared.Shelf.TheVariants.{Day, Month}

@@ -4,7 +4,7 @@ use Rattle.std.specs.Prelude.{Bool, true, ◌&&◌, List, [], ◌∷◌, ℕ, le
 use Rattle.units.specs.Volume.{charge_in_bounds}
 use Rattle.units.specs.Money.{in_bounds}
 use Rattle.records.specs.declared.Record.{Record}
-use Rattle.records.specs.declared.Tally.{Tally}
+use Rattle.records.specs.declared.OpenPeriod.{OpenPeriod}
 use Rattle.records.specs.declared.Periods.{Periods}
 use Rattle.records.specs.Records.{Held, day_limit, month_limit}
 
@@ -16,11 +16,11 @@ unfoldable pub records_good : ℕ → ℕ → List Record → Bool
 records_good top total [] = true
 records_good top total (r ∷ rs) = record_good top total r && records_good top total rs
 
-unfoldable pub tally_good : ℕ → Tally → Bool
-tally_good total t = leb t.volume.0 total && charge_in_bounds t.charge.0 total
+unfoldable pub period_good : ℕ → OpenPeriod → Bool
+period_good total t = leb t.volume.0 total && charge_in_bounds t.charge.0 total
 
 unfoldable pub periods_good : ℕ → Periods → Bool
-periods_good total p = tally_good total p.day && tally_good total p.month
+periods_good total p = period_good total p.day && period_good total p.month
 
 unfoldable pub held_good : ℕ → ℕ → Held → Bool
 held_good top total h =
@@ -28,11 +28,11 @@ held_good top total h =
     && (leb (length h.months) month_limit && (records_good top total h.days && records_good top total h.months))
 
 -- of a fresh meter: nothing in the open day and month, no record held
-abbrev pub is_fresh_tally : Tally → Bool
-is_fresh_tally t = eqb t.volume.0 0 && eqb t.charge.0 0
+abbrev pub is_fresh_period : OpenPeriod → Bool
+is_fresh_period t = eqb t.volume.0 0 && eqb t.charge.0 0
 
 unfoldable pub is_fresh_periods : Periods → Bool
-is_fresh_periods p = is_fresh_tally p.day && is_fresh_tally p.month
+is_fresh_periods p = is_fresh_period p.day && is_fresh_period p.month
 
 unfoldable pub is_fresh_held : Held → Bool
 is_fresh_held h = eqb (length h.days) 0 && eqb (length h.months) 0

@@ -1,8 +1,8 @@
 -- Document 01, "Queries": "Day or month record k, newest first from 0. A held day record whose volume is at least a given one: which
 -- such day is left free."
 use Rattle.std.specs.Prelude.{◌≡◌, List, [], ◌∷◌, ℕ, zero, suc, ◌≤◌, ◌<◌, length, get_or, Result, Ok, Err}
-use Rattle.answer.specs.declared.Refusal.{Refusal}
-use Rattle.answer.specs.declared.Refusal.TheVariants.{NotHeld, NoHeavyDay}
+use Rattle.refusal.specs.declared.Refusal.{Refusal}
+use Rattle.refusal.specs.declared.Refusal.TheVariants.{NotHeld, NoHeavyDay}
 use Rattle.records.specs.declared.Record.{Record}
 use Rattle.records.specs.declared.PlacedRecord.{PlacedRecord}
 use Rattle.records.specs.Records.{no_record}

@@ -4,20 +4,20 @@ use Rattle.units.specs.declared.Millionths.{Millionths}
 use Rattle.units.specs.Volume.{volume, charge}
 use Rattle.units.specs.Money.{money}
 use Rattle.records.specs.declared.Record.{Record}
-use Rattle.records.specs.declared.Tally.{Tally}
+use Rattle.records.specs.declared.OpenPeriod.{OpenPeriod}
 use Rattle.records.specs.declared.Periods.{Periods}
 use Rattle.records.specs.declared.Shelf.{Shelf}
 use Rattle.records.specs.declared.Shelf.TheVariants.{Day, Month}
 
 -- "a record (date, volume, charge, closing balance)"
-abbrev pub record_of : ℕ → Tally → Millionths → Record
+abbrev pub record_of : ℕ → OpenPeriod → Millionths → Record
 record_of date t closing = record { date = date; volume = t.volume; charge = t.charge; closing = closing }
 
 abbrev pub no_record : Record
 no_record = record { date = 0; volume = volume 0; charge = charge 0; closing = money (pos 0) }
 
 -- an open day or month with nothing in it
-abbrev pub nothing : Tally
+abbrev pub nothing : OpenPeriod
 nothing = record { volume = volume 0; charge = charge 0 }
 
 abbrev pub no_periods : Periods

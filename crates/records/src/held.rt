@@ -12,8 +12,8 @@ ghost use Rattle.records.specs.Turn.{opened};
 ghost use Rattle.records.specs.Words.{balance_of, balance_word, record_from, record_at, date_word, record_words, shelf_place, word_count, held_of, held_on, rows_of, CountFits, no_words};
 ghost use Rattle.records.specs.Moves.{pushed, closed_words};
 
-use crate::{Limits, Periods, PlacedRecord, Record, Shelf, Tally};
-use answer::Refusal;
+use crate::{Limits, OpenPeriod, Periods, PlacedRecord, Record, Shelf};
+use refusal::Refusal;
 use units::{Charge, Hundredths, Millionths};
 
 // How many words hold the records.
@@ -176,7 +176,7 @@ pub fn record(h: &Words, shelf: Shelf, k: usize) -> Result<Record, Refusal>
     ensures { result ≡ fetched (held_on shelf h.now) k }
 {
     let rows = Rows::new(h, shelf);
-    answer::need(k < rows.count(), Refusal::NotHeld)?;
+    refusal::need(k < rows.count(), Refusal::NotHeld)?;
     Ok(rows.row(k))
 }
 
@@ -204,7 +204,7 @@ pub fn close(h: &mut Words, p: Periods, from: u32, to: u32, closing: Millionths)
     let first = calendar::month_start(from);
     if calendar::month_start(to) <= first {
         return Periods {
-            day: Tally::nothing(),
+            day: OpenPeriod::nothing(),
             ..p
         };
     }

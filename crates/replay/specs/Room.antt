@@ -1,6 +1,6 @@
 -- How much the program holds of the input, and of the answers that wait to be written.
 use Rattle.std.specs.Prelude.{ℕ, ◌+◌, ◌≤◌}
-use Rattle.place.specs.Place.{line_room}
+use Rattle.text_writer.specs.TextWriter.{line_room}
 
 abbrev pub capacity : ℕ
 capacity = 65536

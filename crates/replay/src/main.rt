@@ -1,15 +1,16 @@
-// Plays a journal of calls from standard input on one meter, a line of answer to each line, and sets
+// Replays a journal of calls from standard input on one meter, a line of answer to each line, and sets
 // the ledger's view of the journal beside the meter's at the end.
 #![tactic(auto)]
 
 ghost use Rattle.std.specs.Prelude.{◌≡◌, ◌≤◌, length, OnOk, IfOk};
 ghost use Rattle.replay.specs.Room.{capacity, HasRoom};
 
-use desk::Desk;
-use place::LINE_ROOM;
-use script::Fault;
+use audited_meter::AuditedMeter;
+use replay_lexer::lines;
+use replay_parser::Fault;
 use std::io;
 use std::io::{Read, Write};
+use text_writer::LINE_ROOM;
 
 // The bytes of input, and of answers, that are held at once.
 const CAPACITY: usize = 65_536;
@@ -43,24 +44,24 @@ impl Answers {
     }
 }
 
-// The desk, the lines so far, whether the program is inside a line that was too long, and what the
+// The audited meter, the lines so far, whether the program is inside a line that was too long, and what the
 // program writes to: the record of a plan and the answers.
 #[derive(Drop)]
-struct Player {
-    desk: Desk,
+struct Replayer {
+    audited: AuditedMeter,
     lines: u64,
     skipping: bool,
-    room: [u8; CAPACITY / 2],
+    scratch: [u8; CAPACITY / 2],
     answers: Answers,
 }
 
-impl Player {
-    fn new() -> Player {
-        Player {
-            desk: Desk::new(),
+impl Replayer {
+    fn new() -> Replayer {
+        Replayer {
+            audited: AuditedMeter::new(),
             lines: 0,
             skipping: false,
-            room: [0; CAPACITY / 2],
+            scratch: [0; CAPACITY / 2],
             answers: Answers {
                 bytes: [0; CAPACITY],
                 used: 0,
@@ -68,11 +69,11 @@ impl Player {
         }
     }
 
-    // Plays one line; the end of a line that was too long is passed over. A part of the input is a
+    // Replays one line; the end of a line that was too long is passed over. A part of the input is a
     // slice, whose type has no most length, so three functions ask that it is within the capacity.
-    fn play_line(&mut self, line: &[u8])
+    fn replay_line(&mut self, line: &[u8])
         requires line_len_bound { length line.now ≤ capacity }
-        requires room { HasRoom self.old.answers.used }
+        requires scratch { HasRoom self.old.answers.used }
     {
         self.lines = self.lines.saturating_add(1);
         if self.skipping {
@@ -81,14 +82,20 @@ impl Player {
         }
         let at = self.answers.used;
         let out = &mut self.answers.bytes[at..];
-        let worked = clerk::work(self.desk, self.lines, line, &mut self.room, out);
-        self.desk = worked.desk;
-        self.answers.used = at + worked.length;
+        let replayed = replay_step::replay_line(
+            self.audited,
+            self.lines,
+            line,
+            &mut self.scratch,
+            out,
+        );
+        self.audited = replayed.audited;
+        self.answers.used = at + replayed.length;
     }
 
-    // Plays the whole lines of the input, and says how far they go. The loop keeps two places: over the
+    // Replays the whole lines of the input, and says how far they go. The loop keeps two places: over the
     // parts of a split it would have to add up how far it is, and tell a last part that has no end.
-    fn play_lines(&mut self, sink: &mut impl Write, input: &[u8]) -> io::Result<usize>
+    fn replay_lines(&mut self, sink: &mut impl Write, input: &[u8]) -> io::Result<usize>
         requires { length input.now ≤ capacity }
         ensures { IfOk result (λ from. from ≤ length input.now) }
     {
@@ -96,7 +103,7 @@ impl Player {
         let mut end = lines::line_end(input, from);
         while end < input.len() {
             self.answers.make_room(sink)?;
-            self.play_line(&input[from..end]);
+            self.replay_line(&input[from..end]);
             from = end + 1;
             end = lines::line_end(input, from);
         }
@@ -118,14 +125,14 @@ impl Player {
         let at = self.answers.used;
         let number = self.lines.saturating_add(1);
         let out = &mut self.answers.bytes[at..];
-        self.answers.used = at + report::error_line(number, Fault::TooLong, out);
+        self.answers.used = at + replay_replies::error_line(number, Fault::TooLong, out);
         self.skipping = true;
         0
     }
 
     // The lines that a read completes, answered before the next. There is no heap for a reader of lines:
     // the input is a lent array, of which the first `have` bytes are there.
-    fn play_some(
+    fn replay_some(
         &mut self,
         sink: &mut impl Write,
         input: &mut [u8; CAPACITY],
@@ -134,7 +141,7 @@ impl Player {
         requires { have ≤ capacity }
         ensures { IfOk result (λ held. held ≤ capacity) }
     {
-        let from = self.play_lines(sink, &input[..have])?;
+        let from = self.replay_lines(sink, &input[..have])?;
         lines::shift(input, from, have);
         self.answers.make_room(sink)?;
         let held = self.keep(have - from);
@@ -146,10 +153,15 @@ impl Player {
     fn close(&mut self)
         requires { self.old.answers.used ≡ 0 }
     {
-        let book = self.desk.book;
-        let balance = self.desk.meter.machine.registers.account.balance;
+        let running = self.audited.running;
+        let balance = self.audited.meter.machine.registers.account.balance;
         let out = &mut self.answers.bytes;
-        self.answers.used = report::closing_line(book.recharged, balance, book.sum(), out);
+        self.answers.used = replay_replies::closing_line(
+            running.recharged,
+            balance,
+            running.sum(),
+            out,
+        );
     }
 
     // The end of the input: a last line without its end, and the closing line.
@@ -158,7 +170,7 @@ impl Player {
     {
         if !rest.is_empty() {
             self.answers.make_room(sink)?;
-            self.play_line(rest);
+            self.replay_line(rest);
         }
         self.answers.flush(sink)?;
         self.close();
@@ -167,7 +179,7 @@ impl Player {
 
     // A proved loop has to end, and nothing says that the input does. So it counts its turns, up to a
     // number that no run uses up.
-    fn play_all(&mut self, source: &mut impl Read, sink: &mut impl Write) -> io::Result<()> {
+    fn replay_all(&mut self, source: &mut impl Read, sink: &mut impl Write) -> io::Result<()> {
         let mut input = [0; CAPACITY];
         let mut held = 0;
         for _ in 0..u64::MAX {
@@ -175,12 +187,12 @@ impl Player {
             if got == 0 {
                 break;
             }
-            held = self.play_some(sink, &mut input, held + got)?;
+            held = self.replay_some(sink, &mut input, held + got)?;
         }
         self.finish(sink, &input[..held])
     }
 }
 
 fn main(rt: HostRuntime) -> io::Result<()> {
-    Player::new().play_all(&mut rt.stdin(), &mut rt.stdout())
+    Replayer::new().replay_all(&mut rt.stdin(), &mut rt.stdout())
 }

@@ -1,3 +1,3 @@
 pub mod InForce
-pub mod Kept
-pub mod Real
+pub mod BoundsKept
+pub mod RealLaws

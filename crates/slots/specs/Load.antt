@@ -1,17 +1,17 @@
 -- Document 01, "Load": "10, slot not 1 or 2; 1 to 7; 11, the slot's plan is in force on the stamp's date; 12, a date on or after it is
 -- in force under both this plan and the other slot's".
 use Rattle.std.specs.Prelude.{Bool, true, cond, not, ◌&&◌, ◌||◌, ℕ, eqb, Result, Ok, ⊤}
-use Rattle.answer.specs.declared.Refusal.{Refusal}
-use Rattle.answer.specs.declared.Refusal.TheVariants.{Slot as NoSlot, InForce, Overlap}
-use Rattle.answer.specs.Answer.{need}
+use Rattle.refusal.specs.declared.Refusal.{Refusal}
+use Rattle.refusal.specs.declared.Refusal.TheVariants.{Slot as NoSlot, InForce, Overlap}
+use Rattle.refusal.specs.Refusal.{need}
 use Rattle.plan.specs.declared.Plan.{Plan}
-use Rattle.record.specs.Choice.{of_plan}
+use Rattle.plan_record.specs.Choice.{of_plan}
 use Rattle.slots.specs.declared.Slot.{Slot}
 use Rattle.slots.specs.declared.Slots.{Slots}
 use Rattle.slots.specs.declared.SlotName.{SlotName}
 use Rattle.slots.specs.declared.SlotName.TheVariants.{One, Two}
 use Rattle.slots.specs.World.{World}
-use Rattle.slots.specs.Slots.{by_slot, slot_at, in_slot}
+use Rattle.slots.specs.Slots.{by_slot, slot_at, loaded_in_force}
 
 -- the slot by its number, 1 or 2; and refusal 10 of any other
 abbrev pub slot_named : ℕ → SlotName
@@ -25,24 +25,24 @@ named k rest = need (is_slot k) NoSlot rest
 
 -- the slot that is not slot k
 abbrev pub other_at : Slots → SlotName → Slot
-other_at s k = by_slot k s.two s.one
+other_at s k = by_slot k s.slot_2 s.slot_1
 
 -- a date on or after d is in force under both the slot's plan and p
-unfoldable pub meets_slot : World → Slot → Plan → ℕ → Bool
-meets_slot w s p d = s.loaded && w.meet s.plan p d
+unfoldable pub slot_both_in_force : World → Slot → Plan → ℕ → Bool
+slot_both_in_force w s p d = s.loaded && w.both_in_force s.plan p d
 
 -- of a plan that was read
-unfoldable pub room_refusal : World → Slots → ℕ → SlotName → Plan → Result ⊤ Refusal
-room_refusal w s d k p =
-    need (not (in_slot w (slot_at s k) d)) InForce
-    (need (not (meets_slot w (other_at s k) p d)) Overlap (Ok tt))
+unfoldable pub in_force_refusal : World → Slots → ℕ → SlotName → Plan → Result ⊤ Refusal
+in_force_refusal w s d k p =
+    need (not (loaded_in_force w (slot_at s k) d)) InForce
+    (need (not (slot_both_in_force w (other_at s k) p d)) Overlap (Ok tt))
 
 unfoldable pub load_refusal : World → Slots → ℕ → ℕ → Result Plan Refusal → Result ⊤ Refusal
-load_refusal w s d k r = named k (of_plan r (room_refusal w s d (slot_named k)))
+load_refusal w s d k r = named k (of_plan r (in_force_refusal w s d (slot_named k)))
 
 abbrev pub holding : Plan → Slot
 holding p = record { loaded = true; plan = p }
 
 -- "Plan: slot replaced"
 unfoldable pub loaded : Slots → SlotName → Plan → Slots
-loaded s k p = record { one = by_slot k (holding p) s.one; two = by_slot k s.two (holding p); usage = s.usage }
+loaded s k p = record { slot_1 = by_slot k (holding p) s.slot_1; slot_2 = by_slot k s.slot_2 (holding p); usage = s.usage }

@@ -4,7 +4,7 @@ use Rattle.std.specs.Prelude.{Bool, ℕ}
 use Rattle.calendar.specs.Date.{is_date}
 use Rattle.plan.specs.declared.Plan.{Plan}
 use Rattle.plan.specs.Rules.{is_good}
-use Rattle.plan.specs.Force.{in_force, meet}
+use Rattle.plan.specs.InForce.{in_force, both_in_force}
 use Rattle.plan.specs.Cycles.{cycle_of}
 use Rattle.plan.specs.Charge.{step_charge}
 
@@ -14,13 +14,13 @@ pub record World : Type 0 where
   -- a plan that refusals 2 to 7 let pass
   pub good : Plan → Bool
   -- a plan in force on a date
-  pub force : Plan → ℕ → Bool
+  pub in_force : Plan → ℕ → Bool
   -- two plans both in force on some date on or after a given one
-  pub meet : Plan → Plan → ℕ → Bool
+  pub both_in_force : Plan → Plan → ℕ → Bool
   -- the cycle that a date lies in
   pub cycle : Plan → ℕ → ℕ
   -- the step charge of a volume
   pub charge : Plan → ℕ → ℕ
 
 abbrev pub real : World
-real = record { date = is_date; good = is_good; force = in_force; meet = meet; cycle = cycle_of; charge = step_charge }
+real = record { date = is_date; good = is_good; in_force = in_force; both_in_force = both_in_force; cycle = cycle_of; charge = step_charge }

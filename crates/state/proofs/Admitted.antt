@@ -3,9 +3,9 @@ use mathlib.Core.Path.{◌≡◌}
 use mathlib.Core.Bool.{true}
 use Prim.Native.Nat.{ℕ}
 use Rattle.std.specs.Prelude.{Ok}
-use Rattle.answer.specs.declared.Refusal.TheVariants.{OutOfBounds, Stamp as BadStamp, Earlier}
-use Rattle.answer.specs.Answer.{next}
-use Rattle.answer.proofs.Tests.{split, need-both, next_both}
+use Rattle.refusal.specs.declared.Refusal.TheVariants.{OutOfBounds, Stamp as BadStamp, Earlier}
+use Rattle.refusal.specs.Refusal.{next}
+use Rattle.refusal.proofs.Tests.{split, need-both, next_both}
 use Rattle.calendar.specs.declared.Stamp.{Stamp}
 use Rattle.calendar.specs.Stamp.{not_before}
 use Rattle.slots.specs.World.{World, real}

@@ -1,6 +1,6 @@
 pub mod Admitted
-pub mod Parts
-pub mod Turned
-pub mod Pulses
-pub mod Rooms
+pub mod BoundsInParts
+pub mod TurnKeepsBounds
+pub mod PulsesKeepBounds
+pub mod Headroom
 pub mod WordsTurned

@@ -7,7 +7,7 @@ use native.Mathlib.Omega.{arith}
 use lib.Dec.{ltb}
 use lib.ListN.{length}
 use lib.Signed.{mag}
-use Rattle.answer.proofs.Tests.{cases}
+use Rattle.refusal.proofs.Tests.{cases}
 use Rattle.calendar.specs.declared.Stamp.{Stamp}
 use Rattle.calendar.proofs.Days.{real as real-date}
 use Rattle.records.specs.Words.{held_of}
@@ -17,7 +17,7 @@ use Rattle.state.specs.declared.Registers.{Registers}
 use Rattle.state.specs.State.{state_with, state_of}
 use Rattle.state.specs.Bounds.{no_clock, bounded}
 use Rattle.state.specs.Turn.{turn, turned_to, turn_words}
-use Rattle.state.proofs.Rooms.{state, clocked, small-balance}
+use Rattle.state.proofs.Headroom.{state, clocked, small-balance}
 
 module _ (r : Registers) (words : List ℕ) (s : Stamp) (long : length words ≡ 548) where
   pub turn-long : length (turn_words r s words) ≡ 548

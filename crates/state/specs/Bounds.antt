@@ -8,7 +8,7 @@ use Rattle.account.specs.Account.{account_good, is_fresh_account}
 use Rattle.account.specs.Valve.{is_fresh_valve}
 use Rattle.records.specs.Bounds.{periods_good, held_good, is_fresh_periods, is_fresh_held}
 use Rattle.slots.specs.World.{World}
-use Rattle.slots.specs.Bounds.{slots_good, idle_good, is_fresh_slots}
+use Rattle.slots.specs.Bounds.{slots_good, without_plan_good, is_fresh_slots}
 use Rattle.state.specs.declared.Volumes.{Volumes}
 use Rattle.state.specs.State.{State}
 
@@ -40,7 +40,7 @@ state_good w m =
     volumes_good m.volumes && (account_good m.account m.volumes.total.0
     && (slots_good w m.slots m.clock.date m.volumes.total.0
     && (periods_good m.volumes.total.0 m.periods && (held_good highest_balance m.volumes.total.0 m.held
-    && idle_good w m.slots m.valve.opened m.clock.date))))
+    && without_plan_good w m.slots m.valve.opened m.clock.date))))
 
 -- "without a clock it is the fresh one. Otherwise clock .. as the refusals allow" and the state within its bounds
 unfoldable pub bounded : World → State → Bool

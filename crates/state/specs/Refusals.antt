@@ -3,13 +3,13 @@
 use Rattle.std.specs.Prelude.{Bool, ◌&&◌, ℕ, ◌+◌, leb, pos, Result, Ok, ⊤}
 use Rattle.std.specs.Int.Signed.{lt_z}
 use Rattle.units.specs.Volume.{highest_total}
-use Rattle.answer.specs.declared.Refusal.{Refusal}
-use Rattle.answer.specs.declared.Refusal.TheVariants.{OutOfBounds, Stamp as BadStamp, Earlier, Pulses, Total}
-use Rattle.answer.specs.Answer.{need}
+use Rattle.refusal.specs.declared.Refusal.{Refusal}
+use Rattle.refusal.specs.declared.Refusal.TheVariants.{OutOfBounds, Stamp as BadStamp, Earlier, Pulses, Total}
+use Rattle.refusal.specs.Refusal.{need}
 use Rattle.calendar.specs.declared.Stamp.{Stamp}
 use Rattle.calendar.specs.Stamp.{not_before}
 use Rattle.slots.specs.World.{World}
-use Rattle.slots.specs.Slots.{some_force}
+use Rattle.slots.specs.Slots.{any_in_force}
 use Rattle.state.specs.declared.Volumes.{Volumes}
 use Rattle.state.specs.State.{State}
 use Rattle.state.specs.Bounds.{bounded, stamp_good}
@@ -28,4 +28,4 @@ pulse_refusal v n = need (leb n most_pulses) Pulses (need (leb (v.total.0 + n) h
 
 -- "Key: 22, mark "forbid", balance not above zero, or no plan in force on the stamp's date."
 unfoldable pub key_allowed : World → State → ℕ → Bool
-key_allowed w m d = m.valve.allow && (lt_z (pos 0) m.account.balance.0 && some_force w m.slots d)
+key_allowed w m d = m.valve.allow && (lt_z (pos 0) m.account.balance.0 && any_in_force w m.slots d)

@@ -1,7 +1,7 @@
 // Document 01, "Bounds of a meter": what a meter that a host hands in must keep.
 ghost use Rattle.std.specs.Prelude.{◌≡◌};
 ghost use Rattle.slots.specs.World.{real};
-ghost use Rattle.slots.specs.Slots.{some_force};
+ghost use Rattle.slots.specs.Slots.{any_in_force};
 ghost use Rattle.state.specs.State.{state_of};
 ghost use Rattle.state.specs.Bounds.{is_fresh, volumes_good, bounded};
 
@@ -34,9 +34,9 @@ impl Registers {
 
     // Whether the meter is within its bounds, `some` being whether a plan is in force on the clock's date. The held records are
     // tested first, while little else is in the processor's registers.
-    #[tactic(auto, unfolding(crate::specs::State::state_with, crate::specs::Bounds::bounded, crate::specs::Bounds::stamp_good, crate::specs::Bounds::state_good, calendar::specs::Stamp::is_stamp, slots::specs::Bounds::idle_good))]
+    #[tactic(auto, unfolding(crate::specs::State::state_with, crate::specs::Bounds::bounded, crate::specs::Bounds::stamp_good, crate::specs::Bounds::state_good, calendar::specs::Stamp::is_stamp, slots::specs::Bounds::without_plan_good))]
     pub(crate) fn bounded_on(&self, words: &Words, some: bool) -> bool
-        requires { some ≡ some_force real self.now.slots self.now.clock.date }
+        requires { some ≡ any_in_force real self.now.slots self.now.clock.date }
         ensures { result ≡ bounded real (state_of self.now words.now) }
     {
         let limits = Limits {
@@ -52,13 +52,13 @@ impl Registers {
                 & (self.account.is_good(self.volumes.total)
                     & (self.slots.is_good(self.clock.date, self.volumes.total)
                         & (self.periods.is_good(self.volumes.total)
-                            & (kept & self.slots.idle_good(some, self.valve.opened))))))
+                            & (kept & self.slots.without_plan_good(some, self.valve.opened))))))
     }
 
     // Whether the meter is within its bounds: refusal 0 where it is not.
     pub fn is_bounded(&self, words: &Words) -> bool
         ensures { result ≡ bounded real (state_of self.now words.now) }
     {
-        self.bounded_on(words, self.slots.some_force(self.clock.date))
+        self.bounded_on(words, self.slots.any_in_force(self.clock.date))
     }
 }

@@ -87,7 +87,7 @@ pub fn put_item(x: u64, after: u8, out: &mut [u8]) -> usize
 }
 
 // A line: numbers with single spaces between them, and a newline. It keeps its own place in the
-// buffer: `place::Page` is of a crate above this one.
+// buffer: `text_writer::TextWriter` is of a crate above this one.
 pub fn put_numbers(v: &[u64], out: &mut [u8]) -> usize
     requires { (1 ≤ length v.now) × (length v.now * 21 ≤ length out.old) }
     ensures { Written (spaced v.now ++ (10 ∷ [])) (length v.now * 21) out.old result out.new }

@@ -52,11 +52,11 @@ pub fn load_on(date: u32, slot: u32, record: &[u8]) -> Request<'_> {
     }
 }
 
-pub fn alarms(one: u32, two: u32) -> Request<'static> {
+pub fn alarms(alarm_1: u32, alarm_2: u32) -> Request<'static> {
     Request::from(Call::Alarms(Alarms {
         stamp: MIDNIGHT,
-        one,
-        two,
+        alarm_1,
+        alarm_2,
     }))
 }
 

@@ -1,8 +1,8 @@
 // A call on a meter, and how it should be answered.
 use crate::calls::Request;
 use crate::setup::Start;
-use answer::Refusal;
 use meter::Meter;
+use refusal::Refusal;
 
 // A call on the meter that the setup makes, the refusal that is wanted, if one is, and what the check is called.
 #[derive(Clone, Copy)]

@@ -1,6 +1,6 @@
 // A line for each check, and how many there were.
 use crate::checks::Check;
-use answer::Refusal;
+use refusal::Refusal;
 use std::fmt::Display;
 use std::io;
 use std::io::Stdout;

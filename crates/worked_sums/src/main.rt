@@ -5,7 +5,7 @@
 mod calls; // calls.rt: the calls
 mod checks; // checks.rt: a call on a meter, and how it should be answered
 mod count; // count.rt: the lines that are printed
-mod force; // force.rt: the record in force of two
+mod record_in_force; // record_in_force.rt: the record in force of two
 mod refusals; // refusals.rt: the numbers 0 to 27
 mod setup; // setup.rt: records and meters
 mod sums; // sums.rt: the worked sums
@@ -17,6 +17,6 @@ fn main(rt: HostRuntime) -> io::Result<()> {
     let mut c = Count::new(rt.stdout());
     sums::all(&mut c)?;
     refusals::all(&mut c)?;
-    force::all(&mut c)?;
+    record_in_force::all(&mut c)?;
     c.sum_up()
 }

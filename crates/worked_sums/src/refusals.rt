@@ -3,12 +3,12 @@ use crate::calls::{alarms, command, key, load, load_on, pulses, recharge, tick};
 use crate::count::Count;
 use crate::setup::Start::{Broken, February, Forbidden, Fresh, Full, Planned, Ready, Twice};
 use crate::setup::{PLAN_A, altered};
-use answer::Refusal;
-use answer::Refusal::{
+use records::Shelf;
+use refusal::Refusal;
+use refusal::Refusal::{
     Balance, CycleWord, Dates, Digits, Earlier, InForce, NoAmount, NoPrice, OutOfBounds, Overlap,
     Pulses, RecordLength, Serial, SerialAbove, SerialAgain, SerialBelow, Slot, Stamp, Steps, Total,
 };
-use records::Shelf;
 use std::io;
 use units::Hundredths;
 
@@ -119,7 +119,7 @@ fn queries(c: &mut Count) -> io::Result<()> {
 
 // Plan A written into a buffer.
 fn write_a(out: &mut [u8]) -> Result<(), Refusal> {
-    record::write(record::read(PLAN_A)?, out)
+    plan_record::write(plan_record::read(PLAN_A)?, out)
 }
 
 fn short_buffer(c: &mut Count) -> io::Result<()> {

@@ -85,8 +85,8 @@ pub fn with_balance(n: i64) -> Meter {
     m.machine.registers.account = Account {
         balance: Millionths(n),
         serial: 1,
-        one: 20,
-        two: 5,
+        alarm_1: 20,
+        alarm_2: 5,
     };
     m
 }

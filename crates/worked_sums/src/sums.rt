@@ -5,9 +5,9 @@ use crate::checks::Check;
 use crate::count::Count;
 use crate::setup::Start::{February, Fresh, January, March, Planned, Ready, Recharged, Tabled};
 use crate::setup::{Start, TABLE_C10, TABLE_C11, with_balance};
-use answer::Refusal::{Overlap, Pulses, SerialAbove, SerialAgain};
 use plan::StepPrice;
 use records::Shelf;
+use refusal::Refusal::{Overlap, Pulses, SerialAbove, SerialAgain};
 use std::io;
 use units::{Charge, Hundredths, Shown, TenThousandths};
 

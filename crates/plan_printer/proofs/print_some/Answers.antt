@@ -1,6 +1,6 @@
 -- What was read is at most the buffer, so that its lines have room.
 use Rattle.std.proofs.Common.{length-take, arith}
-use Rattle.printer.specs.Records.{records_in}
+use Rattle.plan_line.specs.Records.{records_in}
 use Rattle.plan_printer.proofs.print_some.Goals as goal
 
 pub lines-n-requires : goal.lines-n-requires

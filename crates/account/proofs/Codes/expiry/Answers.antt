@@ -1,6 +1,6 @@
 -- The code of a plan's end and that of closing are noted one after the other.
 use Rattle.account.specs.Valve.{expiry_codes}
-use Rattle.account.proofs.Notes.{note-append}
+use Rattle.account.proofs.CodesNoted.{note-append}
 use Rattle.account.proofs.Codes.expiry.Goals as goal
 
 pub returns : goal.returns

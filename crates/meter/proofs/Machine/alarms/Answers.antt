@@ -4,7 +4,7 @@ use Rattle.meter.specs.Call.{alarms}
 use Rattle.meter.specs.Refusals.{own_refusal}
 use Rattle.meter.specs.Effects.{effect_of, codes_of}
 use Rattle.meter.specs.Machine.{meter_of}
-use Rattle.meter.proofs.Outcomes.{answered}
+use Rattle.meter.proofs.AnswersByRefusal.{answered}
 use Rattle.meter.proofs.Machine.alarms.Goals as goal
 
 pub returns : goal.returns

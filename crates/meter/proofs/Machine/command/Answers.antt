@@ -2,7 +2,7 @@ use Rattle.std.proofs.Common.{rules}
 use Rattle.meter.specs.Call.{command}
 use Rattle.meter.specs.Refusals.{own_refusal}
 use Rattle.meter.specs.Machine.{meter_of}
-use Rattle.meter.proofs.Outcomes.{answered}
+use Rattle.meter.proofs.AnswersByRefusal.{answered}
 use Rattle.meter.proofs.Machine.command.Goals as goal
 
 pub returns : goal.returns

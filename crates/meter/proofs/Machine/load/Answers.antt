@@ -1,12 +1,12 @@
 use Rattle.std.proofs.Common.{◌≡◌, [], ◌∷◌, sym, ◌∙◌, rules}
 use Rattle.std.specs.Prelude.{⊤, Result, Ok, Err}
-use Rattle.answer.specs.declared.Refusal.{Refusal}
-use Rattle.answer.specs.Answer.{next}
-use Rattle.answer.proofs.Tests.{next-first, next-rest}
+use Rattle.refusal.specs.declared.Refusal.{Refusal}
+use Rattle.refusal.specs.Refusal.{next}
+use Rattle.refusal.proofs.Tests.{next-first, next-rest}
 use Rattle.account.specs.declared.Event.TheVariants.{Set}
 use Rattle.account.specs.Codes.{event_code, note_all}
 use Rattle.plan.specs.declared.Plan.{Plan}
-use Rattle.record.specs.Record.{read_of, plan_in}
+use Rattle.plan_record.specs.PlanRecord.{read_of, plan_in}
 use Rattle.slots.specs.declared.SlotName.{SlotName}
 use Rattle.slots.specs.World.{real}
 use Rattle.slots.specs.Load.{slot_named, load_refusal, loaded}
@@ -16,7 +16,7 @@ use Rattle.meter.specs.Refusals.{own_refusal}
 use Rattle.meter.specs.Effects.{effect_of, codes_of}
 use Rattle.meter.specs.Machine.{meter_of}
 use Rattle.meter.specs.Course.{accepted_of}
-use Rattle.meter.proofs.Outcomes.{answered}
+use Rattle.meter.proofs.AnswersByRefusal.{answered}
 use Rattle.meter.proofs.Machine.load.Goals as goal
 
 refused-first : {T : Type 0} (a : Result ⊤ Refusal) (x : T) {n : Refusal} → Err n ≡ next a (Ok x) → a ≡ Err n

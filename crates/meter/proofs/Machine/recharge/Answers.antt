@@ -5,18 +5,18 @@ use Rattle.account.specs.Account.{recharge_refusal}
 use Rattle.slots.specs.World.{real}
 use Rattle.state.specs.State.{State, state_with, registers_of}
 use Rattle.state.proofs.Admitted.{stamp-passed}
-use Rattle.state.proofs.Turned.{turn-account}
-use Rattle.state.proofs.Rooms.{state, small-balance, low-serial, small-amount}
+use Rattle.state.proofs.TurnKeepsBounds.{turn-account}
+use Rattle.state.proofs.Headroom.{state, small-balance, low-serial, small-amount}
 use Rattle.meter.specs.Call.{recharge}
 use Rattle.meter.specs.Refusals.{own_refusal}
 use Rattle.meter.specs.Effects.{effect_of, codes_of}
 use Rattle.meter.specs.Machine.{meter_of, state_in}
-use Rattle.meter.proofs.Outcomes.{answered}
+use Rattle.meter.proofs.AnswersByRefusal.{answered}
 use Rattle.meter.proofs.Machine.recharge.Goals as goal
 
-pub run-requires-clause-vets : goal.run-requires-clause-vets
+pub run-requires-clause-checks : goal.run-requires-clause-checks
 unfolding state_with
-run-requires-clause-vets c h =
+run-requires-clause-checks c h =
     let m : State = state_in (meter_of c.args.self c.args.words.now) in
     let s = state m (stamp-passed real m c.args.p.stamp h).0 in
     search (rules, small-balance _ s, low-serial _ s)

@@ -5,7 +5,7 @@ use Rattle.account.specs.Codes.{note_all}
 use Rattle.meter.specs.Refusals.{own_refusal}
 use Rattle.meter.specs.Effects.{effect_of, codes_of}
 use Rattle.meter.specs.Machine.{meter_of}
-use Rattle.meter.proofs.Outcomes.{answered}
+use Rattle.meter.proofs.AnswersByRefusal.{answered}
 use Rattle.meter.proofs.Machine.tick.Goals as goal
 
 pub returns : goal.returns

@@ -1,7 +1,7 @@
 -- The days in force are the dates of one run.
 use Rattle.std.proofs.Common.{◌≡◌, ◌∙◌, sym, rules}
-use Rattle.plan.specs.Force.{in_period, first_day, end_day}
-use Rattle.plan.proofs.Force.{on-days}
+use Rattle.plan.specs.InForce.{in_period, first_day, end_day}
+use Rattle.plan.proofs.DaysInForce.{on-days}
 use Rattle.plan.proofs.Plan.in_force.Goals as goal
 
 pub returns : goal.returns

@@ -1,0 +1,2 @@
+pub mod LedgerAgrees
+pub mod AfterCall

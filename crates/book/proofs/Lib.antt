@@ -1,4 +1,0 @@
-pub mod Rooms
-pub mod Pages
-pub mod Steps
-pub mod Proved

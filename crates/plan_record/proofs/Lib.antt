@@ -1,0 +1,5 @@
+pub mod RecordRead
+pub mod Bytes
+pub mod Digits
+pub mod RoundTrips
+pub mod RecordWritten

@@ -1,0 +1,5 @@
+pub mod Digits
+pub mod Fields
+pub mod PlanRecord
+pub mod RoundTrips
+pub mod Choice

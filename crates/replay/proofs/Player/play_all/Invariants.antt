@@ -1,7 +1,0 @@
--- What is held fits the input.
-use Rattle.std.proofs.Common.{◌≤◌}
-use Rattle.replay.specs.Room.{capacity}
-use Rattle.replay.proofs.Player.play_all.Given as goal
-
-abbrev pub invariant-loop : goal.invariant-loop
-invariant-loop g l = l.held ≤ capacity

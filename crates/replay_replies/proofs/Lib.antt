@@ -1,0 +1,3 @@
+pub mod CodesText
+pub mod Agrees
+mod Examples

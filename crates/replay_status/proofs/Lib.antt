@@ -1,0 +1,2 @@
+pub mod OnlyNoPlan
+mod Examples

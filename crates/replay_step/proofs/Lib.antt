@@ -1,0 +1,2 @@
+pub mod RecordOfLine
+pub mod CallThenText

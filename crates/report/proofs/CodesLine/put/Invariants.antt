@@ -1,9 +1,0 @@
--- After i turns the first i codes stand behind `ok`, at most 28 bytes each.
-use Rattle.std.proofs.Common.{◌*◌}
-use lib.ListN.{take}
-use Rattle.place.specs.Place.{Placed}
-use Rattle.report.specs.Lines.{codes_text}
-use Rattle.report.proofs.CodesLine.put.Given as goal
-
-abbrev pub invariant-loop-code : goal.invariant-loop-code
-invariant-loop-code l = Placed (codes_text (take l.code-index l.code-items)) (28 * l.code-index) l.initial.page l.page

@@ -1,7 +1,0 @@
--- The record's numbers are put.
-use Rattle.std.proofs.Common.{arith, refl}
-use Rattle.place.proofs.Placed.{within}
-use Rattle.report.proofs.RecordLine.put.Goals as goal
-
-pub returns : goal.returns
-returns c = within refl (omega arith) c.put_record.ensures

@@ -1,0 +1,4 @@
+pub mod Headroom
+pub mod OpenPages
+pub mod EachCall
+pub mod SameLedger

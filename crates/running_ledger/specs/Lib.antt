@@ -1,0 +1,2 @@
+pub mod RunningLedger
+pub mod SameLedger

@@ -1,7 +1,0 @@
--- The code's table is the definition's.
-use Rattle.script.specs.Forms.{entries, form_of}
-use Rattle.script.proofs.forms.form_of.Goals as goal
-
-pub returns : goal.returns
-unfolding form_of entries
-returns c = c.form_by.ensures

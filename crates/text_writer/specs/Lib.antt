@@ -1,0 +1,2 @@
+pub mod TextWriter
+pub mod Value
