@@ -5,8 +5,8 @@
 
 Instructions a call are counted by callgrind: those of 2,000 calls less those of 1,000. Times are those of bench/core.rs, the least over programs
 that differ in the order alone in which the linker puts their functions: rustc's own linker, LLD, takes the order.
-Stack is what bench/stack.c sees, linked so that no call looks memcpy up. Code is the text of an executable with every function of the header, less that of one
-with none.
+Stack is what bench/stack.c sees, linked so that no call looks memcpy up. Code is the text of an executable with every function of the header,
+less that of one with none.
 """
 import os
 import re

@@ -4,7 +4,7 @@
  * The library keeps nothing. The host keeps one struct for each meter, lends it to the calls, and may copy it with
  * `=` or memcpy. There is no allocation, no lock and no global: two threads may work on two meters at once, not on one.
  *
- * What it takes: 4,680 bytes for a meter, at most 2.5 KB of stack for a call and 1 KB for a query, some 30 KB of code.
+ * What it takes: 4,680 bytes for a meter, at most 2.5 KB of stack for a call and 1 KB for a query, some 32 KB of code.
  *
  * Every function answers any argument and any meter. An answer has `accepted`; where it is false, `refusal` holds one
  * of the HARPDAPPLE_REFUSED numbers, every other field of the answer is 0, and the meter and all lent bytes stand as
@@ -33,9 +33,9 @@ extern "C" {
 
 /* The version of the rules, of these functions and of the layout of a meter together; CHANGELOG.md says what changed. */
 #define HARPDAPPLE_VERSION_MAJOR 0
-#define HARPDAPPLE_VERSION_MINOR 2
+#define HARPDAPPLE_VERSION_MINOR 3
 #define HARPDAPPLE_VERSION_PATCH 0
-#define HARPDAPPLE_VERSION "0.2.0"
+#define HARPDAPPLE_VERSION "0.3.0"
 
 #define HARPDAPPLE_RECORD_BYTES 66 /* length of a plan record */
 #define HARPDAPPLE_STEPS 6         /* most steps of a plan */
@@ -104,18 +104,18 @@ struct harpdapple_stamp {
 struct harpdapple_account {
     int64_t balance;    /* millionths of a yuan; below zero is a debt */
     uint32_t serial;    /* of the last recharge, 0 before the first */
-    uint32_t alarm_1; /* whole yuan */
-    uint32_t alarm_2; /* whole yuan, below alarm_1 */
+    uint32_t alarm_1;   /* whole yuan */
+    uint32_t alarm_2;   /* whole yuan, below alarm_1 */
 };
 
 /* A plan. What its steps and cycle word leave unread may hold anything and has no effect. */
 struct harpdapple_plan {
-    uint32_t start;  /* date, the first in force */
-    uint32_t end;    /* date, the first no longer in force */
-    uint8_t steps;   /* 1 to 6 */
-    uint8_t word;    /* cycle word, unread with one step: 1 month, 2 quarter, 3 year, 4 window, 5 runs of days */
-    uint32_t extra1; /* word 4: date on which the window starts; word 5: date of the first cycle day */
-    uint32_t extra2; /* word 4: date on which the window ends, not in it; word 5: days in a cycle */
+    uint32_t start;   /* date, the first in force */
+    uint32_t end;     /* date, the first no longer in force */
+    uint8_t steps;    /* 1 to 6 */
+    uint8_t word;     /* cycle word, unread with one step: 1 month, 2 quarter, 3 year, 4 window, 5 runs of days */
+    uint32_t extra_1; /* word 4: date on which the window starts; word 5: date of the first cycle day */
+    uint32_t extra_2; /* word 4: date on which the window ends, not in it; word 5: days in a cycle */
     uint32_t widths[HARPDAPPLE_STEPS]; /* hundredths in each step; the last step is endless */
     uint64_t prices[HARPDAPPLE_STEPS]; /* ten-thousandths of a yuan for a m3 in each step */
 };
@@ -220,8 +220,8 @@ struct harpdapple_load_call {
 
 struct harpdapple_alarms_call {
     struct harpdapple_stamp stamp;
-    uint32_t alarm_1; /* alarm 1, whole yuan */
-    uint32_t alarm_2; /* alarm 2, whole yuan */
+    uint32_t alarm_1; /* whole yuan */
+    uint32_t alarm_2; /* whole yuan, below alarm_1 */
 };
 
 struct harpdapple_command_call {
@@ -245,7 +245,7 @@ struct harpdapple_codes_reply harpdapple_recharge(struct harpdapple_meter *meter
 
 /* A plan record put into a slot. Refused: 0, 8, 9, 10, 1 to 7, 11, 12. Code 27. */
 struct harpdapple_codes_reply harpdapple_load(struct harpdapple_meter *meter, struct harpdapple_load_call call,
-                                        const uint8_t *bytes, size_t length);
+                                              const uint8_t *bytes, size_t length);
 
 /* The two alarms set. Refused: 0, 8, 9, 23. Code 27. */
 struct harpdapple_codes_reply harpdapple_alarms(struct harpdapple_meter *meter, struct harpdapple_alarms_call call);

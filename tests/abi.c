@@ -35,7 +35,7 @@ static void meter(void)
 {
     SIZE(stamp), AT(stamp, date), AT(stamp, second);
     SIZE(account), AT(account, balance), AT(account, serial), AT(account, alarm_1), AT(account, alarm_2);
-    SIZE(plan), AT(plan, start), AT(plan, end), AT(plan, steps), AT(plan, word), AT(plan, extra1), AT(plan, extra2);
+    SIZE(plan), AT(plan, start), AT(plan, end), AT(plan, steps), AT(plan, word), AT(plan, extra_1), AT(plan, extra_2);
     AT(plan, widths), AT(plan, prices);
     SIZE(slot), AT(slot, loaded), AT(slot, plan);
     SIZE(slots), AT(slots, slot_1), AT(slots, slot_2), AT(slots, usage);

@@ -204,8 +204,8 @@ static void texts(void)
     SAME(strcmp(harpdapple_code_text(HARPDAPPLE_CODE_PLAN_EXPIRED), "plan expired"), 0);
     SAME(strcmp(harpdapple_code_text(HARPDAPPLE_CODE_ALARM_2), "balance at alarm 2"), 0);
     SAME(strcmp(harpdapple_code_text(0x99), "unknown"), 0);
-    SAME(HARPDAPPLE_VERSION_MAJOR * 10000 + HARPDAPPLE_VERSION_MINOR * 100 + HARPDAPPLE_VERSION_PATCH, 200);
-    SAME(strcmp(HARPDAPPLE_VERSION, "0.2.0"), 0);
+    SAME(HARPDAPPLE_VERSION_MAJOR * 10000 + HARPDAPPLE_VERSION_MINOR * 100 + HARPDAPPLE_VERSION_PATCH, 300);
+    SAME(strcmp(HARPDAPPLE_VERSION, "0.3.0"), 0);
 }
 
 int main(void)

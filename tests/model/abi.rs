@@ -25,7 +25,7 @@ macro_rules! layout {
 pub fn print() {
     layout!("stamp", Stamp, date second);
     layout!("account", Account, balance serial alarm_1 alarm_2);
-    layout!("plan", Plan, start end steps word extra1 extra2 widths prices);
+    layout!("plan", Plan, start end steps word extra_1 extra_2 widths prices);
     layout!("slot", Slot, loaded plan);
     layout!("slots", Slots, slot_1 slot_2 usage);
     layout!("volumes", Volumes, total unpriced);

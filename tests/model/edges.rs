@@ -194,7 +194,7 @@ fn windows(meter: &mut Meter, common: i64) {
     two_plans(meter, (-20, 20), (-20, 20));
     let window = |slot: &mut Slot, from: i64, to: i64| {
         slot.plan.word = 4;
-        (slot.plan.extra1, slot.plan.extra2) = (date.plus(from).number(), date.plus(to).number());
+        (slot.plan.extra_1, slot.plan.extra_2) = (date.plus(from).number(), date.plus(to).number());
     };
     window(&mut meter.slots.slot_1, -30, 5);
     window(&mut meter.slots.slot_2, 5 - common, 30);

@@ -31,8 +31,8 @@ pub struct Plan {
     pub end: u32,
     pub steps: u8,
     pub word: u8,
-    pub extra1: u32,
-    pub extra2: u32,
+    pub extra_1: u32,
+    pub extra_2: u32,
     pub widths: [u32; STEPS],
     pub prices: [u64; STEPS],
 }

@@ -186,8 +186,8 @@ pub fn host_plan(r: &mut Random, plan: &Plan) -> library::Plan {
         host.word = r.next() as u8;
     }
     if !matches!(plan.cycle, Cycle::Window(..) | Cycle::Runs(..)) {
-        host.extra1 = r.next() as u32;
-        host.extra2 = r.next() as u32;
+        host.extra_1 = r.next() as u32;
+        host.extra_2 = r.next() as u32;
     }
     for i in plan.n..6 {
         host.widths[i] = r.next() as u32;
@@ -206,14 +206,14 @@ pub fn damage_host(r: &mut Random, plan: &mut library::Plan) {
             1 => plan.word = r.pick(&[0, 6, 7, 16, 255]),
             2 => plan.start = large,
             3 => plan.end = large,
-            4 => plan.extra1 = large,
-            5 => plan.extra2 = large,
+            4 => plan.extra_1 = large,
+            5 => plan.extra_2 = large,
             6 => plan.widths[i] = large,
             7 => plan.prices[i] = r.pick(&[MOST + 1, u64::MAX, 1 << 32, 1 << 63]),
             8 => plan.start = r.pick(&NO_DATES),
             9 => plan.end = r.pick(&NO_DATES),
-            10 => plan.extra1 = r.pick(&NO_DATES),
-            11 => plan.extra2 = r.pick(&[0, 20_210_229, MOST as u32]),
+            10 => plan.extra_1 = r.pick(&NO_DATES),
+            11 => plan.extra_2 = r.pick(&[0, 20_210_229, MOST as u32]),
             12 => plan.end = plan.start,
             _ => plan.prices[i] = 0,
         }

@@ -101,12 +101,12 @@ impl Stamp {
         Ok(self.date)
     }
 
-    // Whether `next` is not before this stamp: the derived order, under a name that says which way.
+    // Whether the stamp is not before `last`: the derived order, under a name that says which way.
     #[tactic(auto, unfolding(crate::specs::Stamp::not_before))]
-    pub fn not_before(self, next: Stamp) -> bool
-        ensures { result ≡ not_before self next }
+    pub fn not_before(self, last: Stamp) -> bool
+        ensures { result ≡ not_before last self }
     {
-        self <= next
+        last <= self
     }
 }
 

@@ -16,8 +16,8 @@ use Rattle.meter.specs.Call.{Call}
 use Rattle.meter.specs.Effects.{effect_of, codes_of}
 use Rattle.meter.specs.Machine.{state_in}
 
--- `own` holds of what a call's own test may tell, `effect` of a stage, of what was told, and of what the call may make of the two.
--- Vetted: the stamp admitted, x told by the call's own test, and the day turned.
+-- `own` holds of what a call's own test may tell, `effect` of turned registers, of what was told, and of what the call may make of the two.
+-- Checked: the stamp admitted, x told by the call's own test, and the day turned.
 pub record Checked {T : Type 0} (m : Meter) (s : Stamp) (own : Result T Refusal → Type 0) (x : T) (t : RegistersAndCodes) (words : List ℕ) : Type 0 where
   pub stamp : stamp_refusal real (state_in m) s ≡ Ok tt
   pub told : own (Ok x)

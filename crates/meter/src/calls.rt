@@ -25,14 +25,6 @@ use slots::SlotName;
 use state::RegistersAndCodes;
 
 impl Machine {
-    // The stamp's date, or refusal 0, 8 or 9.
-    fn admit(&self, words: &Words, stamp: Stamp) -> Result<u32, Refusal>
-        ensures { result ≡ next (stamp_refusal real (state_of self.now.registers words.now) stamp) (Ok stamp.date) }
-    {
-        let some = self.registers.slots.any_in_force(self.registers.clock.date);
-        self.registers.admit(words, some, stamp)
-    }
-
     // The course of each call but pulses: refused by its stamp, or by `check` on the admitted date;
     // else the day turns, and the effect takes what `check` read.
     fn run<T, V: FnOnce(u32) -> Result<T, Refusal>, E: FnOnce(RegistersAndCodes, T) -> Accepted>(
@@ -46,7 +38,8 @@ impl Machine {
         requires acts { (x : T) (t : RegistersAndCodes) (w : List ℕ) → Checked (meter_of self.now words.old) stamp (V.post check stamp.date) x t w → E.pre effect t x }
         ensures { Ran (meter_of self.now words.old) stamp (V.post check stamp.date) (E.post effect) result words.new }
     {
-        let admitted = self.admit(words, stamp);
+        let some = self.registers.slots.any_in_force(self.registers.clock.date);
+        let admitted = self.registers.admit(words, some, stamp);
         let Ok(date) = admitted else {
             return Err(admitted.unwrap_err());
         };

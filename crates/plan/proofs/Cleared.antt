@@ -49,13 +49,13 @@ module _ (p : Plan) (m : p.steps ≤ most_steps) (i : ℕ) (h : i < p.steps) whe
 
 -- what the cycle adds to the tests is asked of fields that are read
 dates-kept : (c : Cycle) (p q : Plan)
-    → q.extra1 ≡ cond (two_more c) p.extra1 0 → q.extra2 ≡ cond (two_more c) p.extra2 0 → extra_dates c q ≡ extra_dates c p
+    → q.extra_1 ≡ cond (two_more c) p.extra_1 0 → q.extra_2 ≡ cond (two_more c) p.extra_2 0 → extra_dates c q ≡ extra_dates c p
 dates-kept Window p q e f = rw (e, f)
 dates-kept Runs p q e f = rw e
 dates-kept _ p q e f = refl
 
 days-kept : (c : Cycle) (p q : Plan) → q.start ≡ p.start → q.end ≡ p.end
-    → q.extra1 ≡ cond (two_more c) p.extra1 0 → q.extra2 ≡ cond (two_more c) p.extra2 0 → extra_days c q ≡ extra_days c p
+    → q.extra_1 ≡ cond (two_more c) p.extra_1 0 → q.extra_2 ≡ cond (two_more c) p.extra_2 0 → extra_days c q ≡ extra_days c p
 days-kept Window p q s t e f = rw (s, t, e, f)
 days-kept Runs p q s t e f = rw f
 days-kept _ p q s t e f = refl

@@ -11,7 +11,7 @@ use Rattle.plan.specs.Plan.{cycle}
 use Rattle.plan.specs.Cycles.{cycle_by, cycle_of}
 
 by-rises : (c : Cycle) (p : Plan) (a b : ℕ) → is_date a ≡ true → a ≤ b → cycle_by c p a ≤ cycle_by c p b
-by-rises Runs p a b ha h = run-rises p.extra1 p.extra2 a b ha h
+by-rises Runs p a b ha h = run-rises p.extra_1 p.extra_2 a b ha h
 by-rises c p a b ha h = start-rises c a b h
 
 -- a later date's cycle is not an earlier one

@@ -26,12 +26,12 @@ inside from to d h k = rw (le-leb from d h, lt-ltb d to k)
 by-within : (c : Cycle) (p : Plan) (d : ℕ) → in_period p.start p.end d ≡ true → in_window c p d ≡ true → (first_by c p ≤ d) × (d < end_by c p)
 by-within Window p d h k =
     let a = within p.start p.end d h in
-    let b = within p.extra1 p.extra2 d k in
+    let b = within p.extra_1 p.extra_2 d k in
     (omega arith, omega arith)
 by-within _ p d h k = within p.start p.end d h
 
 within-by : (c : Cycle) (p : Plan) (d : ℕ) → first_by c p ≤ d → d < end_by c p → (in_period p.start p.end d && in_window c p d) ≡ true
-within-by Window p d h k = rw (inside p.start p.end d (omega arith) (omega arith)) (inside p.extra1 p.extra2 d (omega arith) (omega arith))
+within-by Window p d h k = rw (inside p.start p.end d (omega arith) (omega arith)) (inside p.extra_1 p.extra_2 d (omega arith) (omega arith))
 within-by _ p d h k = rw (inside p.start p.end d h k)
 
 module _ (p : Plan) (d : ℕ) where
@@ -94,7 +94,7 @@ later-date a b h k =
 first-by : (c : Cycle) (p : Plan) → is_good p ≡ true → cycle p ≡ c → (is_date (first_by c p) ≡ true) × (first_by c p < end_by c p)
 first-by Window p h e =
     let w = window-order p h e in
-    (later-date p.start p.extra1 (start-date p h) (window-dates p h e).0, omega (arith, period-order p h))
+    (later-date p.start p.extra_1 (start-date p h) (window-dates p h e).0, omega (arith, period-order p h))
 first-by _ p h e = (start-date p h, period-order p h)
 
 pub first-day-date : (p : Plan) → is_good p ≡ true → is_date (first_day p) ≡ true
@@ -110,14 +110,14 @@ pub first-in-force : (p : Plan) → is_good p ≡ true → in_force p (first_day
 first-in-force p h = within-in-force p (first_day p) (omega arith) (first-before-end p h)
 
 -- a plan that is in force on a date, and has a day in its cycles, passes the test for it
-by-days : (c : Cycle) (p : Plan) (d : ℕ) → p.start ≤ d → d < p.end → in_window c p d ≡ true → (c ≡ Runs → 1 ≤ p.extra2) → extra_days c p ≡ true
+by-days : (c : Cycle) (p : Plan) (d : ℕ) → p.start ≤ d → d < p.end → in_window c p d ≡ true → (c ≡ Runs → 1 ≤ p.extra_2) → extra_days c p ≡ true
 by-days Window p d s e w n =
-    let b = within p.extra1 p.extra2 d w in
-    rw (lt-ltb p.extra1 p.extra2 (omega arith), lt-ltb p.start p.extra2 (omega arith), lt-ltb p.extra1 p.end (omega arith))
-by-days Runs p d s e w n = le-leb 1 p.extra2 (n refl)
+    let b = within p.extra_1 p.extra_2 d w in
+    rw (lt-ltb p.extra_1 p.extra_2 (omega arith), lt-ltb p.start p.extra_2 (omega arith), lt-ltb p.extra_1 p.end (omega arith))
+by-days Runs p d s e w n = le-leb 1 p.extra_2 (n refl)
 by-days _ p d s e w n = refl
 
-pub in-force-some-day : (p : Plan) (d : ℕ) → in_force p d ≡ true → (cycle p ≡ Runs → 1 ≤ p.extra2) → some_day p ≡ true
+pub in-force-some-day : (p : Plan) (d : ℕ) → in_force p d ≡ true → (cycle p ≡ Runs → 1 ≤ p.extra_2) → some_day p ≡ true
 unfolding some_day in_force
 in-force-some-day p d h n =
     let t = split {a = in_period p.start p.end d} h in

@@ -74,11 +74,11 @@ module _ (p : Plan) (h : is_good p ≡ true) where
   extra-dates = (split {a = is_date p.end} (split {a = is_date p.start} (tests p h).dates).1).1
 
   -- both ends of a window are dates
-  pub window-dates : cycle p ≡ Window → (is_date p.extra1 ≡ true) × (is_date p.extra2 ≡ true)
-  window-dates w = split {a = is_date p.extra1} (rw w at extra-dates)
+  pub window-dates : cycle p ≡ Window → (is_date p.extra_1 ≡ true) × (is_date p.extra_2 ≡ true)
+  window-dates w = split {a = is_date p.extra_1} (rw w at extra-dates)
 
   -- the first cycle day is a date
-  pub first-date : cycle p ≡ Runs → is_date p.extra1 ≡ true
+  pub first-date : cycle p ≡ Runs → is_date p.extra_1 ≡ true
   first-date w = rw w at extra-dates
 
   -- it ends after it starts
@@ -92,15 +92,15 @@ module _ (p : Plan) (h : is_good p ≡ true) where
   extra-days = (split {a = ltb p.start p.end} (tests p h).days).1
 
   -- a window begins before it ends, and some of it lies in the period
-  pub window-order : cycle p ≡ Window → (p.extra1 < p.extra2) × (p.start < p.extra2) × (p.extra1 < p.end)
+  pub window-order : cycle p ≡ Window → (p.extra_1 < p.extra_2) × (p.start < p.extra_2) × (p.extra_1 < p.end)
   window-order w =
-      let f = split {a = ltb p.extra1 p.extra2} (rw w at extra-days) in
-      let s = split {a = ltb p.start p.extra2} f.1 in
+      let f = split {a = ltb p.extra_1 p.extra_2} (rw w at extra-days) in
+      let s = split {a = ltb p.start p.extra_2} f.1 in
       (ltb-true _ _ f.0, ltb-true _ _ s.0, ltb-true _ _ s.1)
 
   -- a cycle has a day
-  pub cycle-days : cycle p ≡ Runs → 1 ≤ p.extra2
-  cycle-days w = leb-true 1 p.extra2 (rw w at extra-days)
+  pub cycle-days : cycle p ≡ Runs → 1 ≤ p.extra_2
+  cycle-days w = leb-true 1 p.extra_2 (rw w at extra-days)
 
   -- the widths and prices of the steps
   pairs-good : every (pair_good p) p.steps ≡ true
@@ -108,7 +108,7 @@ module _ (p : Plan) (h : is_good p ≡ true) where
   pairs-good =
       let s = split {a = eight_digits p.start} (tests p h).numbers in
       let e = split {a = eight_digits p.end} s.1 in
-      (split {a = cond (has_extra p) (eight_digits p.extra1 && eight_digits p.extra2) true} e.1).1
+      (split {a = cond (has_extra p) (eight_digits p.extra_1 && eight_digits p.extra_2) true} e.1).1
 
   -- a width has eight digits at most
   pub width-bound : (i : ℕ) → i < p.steps → width_at p i ≤ most_number

@@ -9,7 +9,7 @@ use Rattle.plan.specs.Plan.{cycle}
 
 -- the cycle that a date lies in, by a number that tells the plan's cycles apart; `cycle_start` is 0 for those of one cycle
 abbrev pub cycle_by : Cycle → Plan → ℕ → ℕ
-cycle_by Runs p d = run_of p.extra1 p.extra2 d
+cycle_by Runs p d = run_of p.extra_1 p.extra_2 d
 cycle_by c p d = cycle_start c d
 
 unfoldable pub cycle_of : Plan → ℕ → ℕ

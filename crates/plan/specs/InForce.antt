@@ -10,7 +10,7 @@ abbrev pub in_period : ℕ → ℕ → ℕ → Bool
 in_period from to d = leb from d && ltb d to
 
 abbrev pub in_window : Cycle → Plan → ℕ → Bool
-in_window Window p d = in_period p.extra1 p.extra2 d
+in_window Window p d = in_period p.extra_1 p.extra_2 d
 in_window _ p d = true
 
 unfoldable pub in_force : Plan → ℕ → Bool
@@ -18,14 +18,14 @@ in_force p d = in_period p.start p.end d && in_window (cycle p) p d
 
 -- the first date in force, and the first one after it that is not
 abbrev pub first_by : Cycle → Plan → ℕ
-first_by Window p = max p.start p.extra1
+first_by Window p = max p.start p.extra_1
 first_by _ p = p.start
 
 unfoldable pub first_day : Plan → ℕ
 first_day p = first_by (cycle p) p
 
 abbrev pub end_by : Cycle → Plan → ℕ
-end_by Window p = min p.end p.extra2
+end_by Window p = min p.end p.extra_2
 end_by _ p = p.end
 
 unfoldable pub end_day : Plan → ℕ

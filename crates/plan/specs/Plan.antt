@@ -48,8 +48,8 @@ cleared p = record {
   end = p.end;
   steps = p.steps;
   word = cycle_word p;
-  extra1 = cond (has_extra p) p.extra1 0;
-  extra2 = cond (has_extra p) p.extra2 0;
+  extra_1 = cond (has_extra p) p.extra_1 0;
+  extra_2 = cond (has_extra p) p.extra_2 0;
   widths = six (kept p p.widths (volume 0));
   prices = six (kept p p.prices (price 0));
 }
@@ -61,8 +61,8 @@ no_plan = record {
   end = 0;
   steps = 0;
   word = 0;
-  extra1 = 0;
-  extra2 = 0;
+  extra_1 = 0;
+  extra_2 = 0;
   widths = replicate most_steps (volume 0);
   prices = replicate most_steps (price 0);
 }

@@ -36,12 +36,12 @@ pair_good p i = eight_digits (width_at p i) && eight_digits (price_at p i)
 unfoldable pub numbers_good : Plan → Bool
 numbers_good p =
     eight_digits p.start && (eight_digits p.end
-    && (cond (has_extra p) (eight_digits p.extra1 && eight_digits p.extra2) true && every (pair_good p) p.steps))
+    && (cond (has_extra p) (eight_digits p.extra_1 && eight_digits p.extra_2) true && every (pair_good p) p.steps))
 
 -- "5, a read date not in the calendar above": start, end, both ends of the window, the first cycle day
 abbrev pub extra_dates : Cycle → Plan → Bool
-extra_dates Window p = is_date p.extra1 && is_date p.extra2
-extra_dates Runs p = is_date p.extra1
+extra_dates Window p = is_date p.extra_1 && is_date p.extra_2
+extra_dates Runs p = is_date p.extra_1
 extra_dates _ p = true
 
 unfoldable pub dates_good : Plan → Bool
@@ -49,8 +49,8 @@ dates_good p = is_date p.start && (is_date p.end && extra_dates (cycle p) p)
 
 -- "6, no day in force, or days in a cycle 0"
 abbrev pub extra_days : Cycle → Plan → Bool
-extra_days Window p = ltb p.extra1 p.extra2 && (ltb p.start p.extra2 && ltb p.extra1 p.end)
-extra_days Runs p = leb 1 p.extra2
+extra_days Window p = ltb p.extra_1 p.extra_2 && (ltb p.start p.extra_2 && ltb p.extra_1 p.end)
+extra_days Runs p = leb 1 p.extra_2
 extra_days _ p = true
 
 unfoldable pub some_day : Plan → Bool

@@ -14,7 +14,7 @@ impl Plan {
         ensures { result ≡ record { start = first_day self; end = end_day self } }
     {
         match self.cycle() {
-            Cycle::Window => self.start.max(self.extra1)..self.end.min(self.extra2),
+            Cycle::Window => self.start.max(self.extra_1)..self.end.min(self.extra_2),
             _ => self.start..self.end,
         }
     }
@@ -40,7 +40,7 @@ impl Plan {
         ensures { result ≡ cycle_of self d }
     {
         match self.cycle() {
-            Cycle::Runs => calendar::run_of(self.extra1, self.extra2, d),
+            Cycle::Runs => calendar::run_of(self.extra_1, self.extra_2, d),
             cycle => calendar::cycle_start(cycle, d),
         }
     }

@@ -29,9 +29,10 @@ impl Plan {
     }
 
     fn extra_good(self) -> bool
-        ensures { result ≡ cond (has_extra self) (eight_digits self.extra1 && eight_digits self.extra2) true }
+        ensures { result ≡ cond (has_extra self) (eight_digits self.extra_1 && eight_digits self.extra_2) true }
     {
-        !self.has_extra() || (eight_digits(self.extra1 as u64) && eight_digits(self.extra2 as u64))
+        !self.has_extra()
+            || (eight_digits(self.extra_1 as u64) && eight_digits(self.extra_2 as u64))
     }
 
     fn pairs_good(self) -> bool
@@ -55,8 +56,8 @@ impl Plan {
         ensures { result ≡ extra_dates (cycle self) self }
     {
         match self.cycle() {
-            Cycle::Window => calendar::is_date(self.extra1) && calendar::is_date(self.extra2),
-            Cycle::Runs => calendar::is_date(self.extra1),
+            Cycle::Window => calendar::is_date(self.extra_1) && calendar::is_date(self.extra_2),
+            Cycle::Runs => calendar::is_date(self.extra_1),
             _ => true,
         }
     }
@@ -72,9 +73,9 @@ impl Plan {
         ensures { result ≡ extra_days (cycle self) self }
     {
         match self.cycle() {
-            Cycle::Window => (self.extra1 < self.extra2)
-                & ((self.start < self.extra2) & (self.extra1 < self.end)),
-            Cycle::Runs => 1 <= self.extra2,
+            Cycle::Window => (self.extra_1 < self.extra_2)
+                & ((self.start < self.extra_2) & (self.extra_1 < self.end)),
+            Cycle::Runs => 1 <= self.extra_2,
             _ => true,
         }
     }

@@ -19,7 +19,7 @@ pairs_from p (suc n) i = width_at p i ∷ price_at p i ∷ pairs_from p n (i + 1
 
 -- the numbers before the pairs
 unfoldable pub head_of : Plan → List ℕ
-head_of p = p.start ∷ p.end ∷ p.steps ∷ cycle_word p ∷ cond (has_extra p) (p.extra1 ∷ p.extra2 ∷ []) []
+head_of p = p.start ∷ p.end ∷ p.steps ∷ cycle_word p ∷ cond (has_extra p) (p.extra_1 ∷ p.extra_2 ∷ []) []
 
 -- the numbers of a plan's line
 unfoldable pub numbers_of : Plan → List ℕ

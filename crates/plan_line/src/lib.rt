@@ -33,8 +33,8 @@ fn head_of(p: Plan) -> Numbers
     numbers.push(u64::from(p.steps));
     numbers.push(u64::from(p.cycle_word()));
     if p.has_extra() {
-        numbers.push(u64::from(p.extra1));
-        numbers.push(u64::from(p.extra2));
+        numbers.push(u64::from(p.extra_1));
+        numbers.push(u64::from(p.extra_2));
     }
     numbers
 }
@@ -62,7 +62,7 @@ fn plan_line(p: Plan, out: &mut [u8]) -> usize
     text::put_numbers(numbers_of(p).as_slice(), out)
 }
 
-// The line of a refusal. `replay_replies` has its own, by a `TextWriter` of crate `text_writer`, which prints units of a
+// The line of a refusal. `replay_replies` has its own, by crate `text_writer`, which prints units of a
 // meter: the lines here are plain numbers, so this crate does without it.
 fn refusal_line(refusal: Refusal, out: &mut [u8]) -> usize
     requires { most_line ≤ length out.old }

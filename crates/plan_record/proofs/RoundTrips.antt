@@ -37,15 +37,15 @@ six-same f g h = rw (h 0, h 1, h 2, h 3, h 4, h 5)
 
 module _ (p : Plan) (h : is_good p ≡ true) where
   -- a good plan's numbers have eight digits at most where they are read
-  numbers : (p.start ≤ most_number) × (p.end ≤ most_number) × (has_extra p ≡ true → (p.extra1 ≤ most_number) × (p.extra2 ≤ most_number))
+  numbers : (p.start ≤ most_number) × (p.end ≤ most_number) × (has_extra p ≡ true → (p.extra_1 ≤ most_number) × (p.extra_2 ≤ most_number))
   unfolding numbers_good
   numbers =
       let s = split {a = eight_digits p.start} (tests p h).numbers in
       let e = split {a = eight_digits p.end} s.1 in
-      let x = split {a = cond (has_extra p) (eight_digits p.extra1 && eight_digits p.extra2) true} e.1 in (
+      let x = split {a = cond (has_extra p) (eight_digits p.extra_1 && eight_digits p.extra_2) true} e.1 in (
         leb-true _ _ s.0,
         leb-true _ _ e.0,
-        λ t. let f = split {a = eight_digits p.extra1} (rw t at x.0) in (leb-true _ _ f.0, leb-true _ _ f.1),
+        λ t. let f = split {a = eight_digits p.extra_1} (rw t at x.0) in (leb-true _ _ f.0, leb-true _ _ f.1),
       )
 
   width_back : (i : ℕ) → volume (quad_at (four_bytes (kept p p.widths (volume 0) i).0) 0) ≡ kept p p.widths (volume 0) i
@@ -67,8 +67,8 @@ module _ (p : Plan) (h : is_good p ≡ true) where
       rw (
         quad-back p.start numbers.0,
         quad-back p.end numbers.1,
-        kept_back (has_extra p) p.extra1 (λ t. (numbers.2 t).0),
-        kept_back (has_extra p) p.extra2 (λ t. (numbers.2 t).1),
+        kept_back (has_extra p) p.extra_1 (λ t. (numbers.2 t).0),
+        kept_back (has_extra p) p.extra_2 (λ t. (numbers.2 t).1),
         six-same _ (kept p p.widths (volume 0)) width_back,
         six-same _ (kept p p.prices (price 0)) price-back,
       )

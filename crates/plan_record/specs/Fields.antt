@@ -25,8 +25,8 @@ fields_of s = record {
   end = quad_at s 4;
   steps = get_or s 8 0;
   word = get_or s 9 0;
-  extra1 = quad_at s 10;
-  extra2 = quad_at s 14;
+  extra_1 = quad_at s 10;
+  extra_2 = quad_at s 14;
   widths = widths_of s;
   prices = prices_of s;
 }
@@ -42,7 +42,7 @@ pair_bytes p i = eight_bytes (width_at p i) (price_at p i)
 -- a plan in bytes, every field of it
 unfoldable pub bytes_of : Plan → List ℕ
 bytes_of p =
-    eight_bytes p.start p.end ++ (p.steps ∷ p.word ∷ (eight_bytes p.extra1 p.extra2
+    eight_bytes p.start p.end ++ (p.steps ∷ p.word ∷ (eight_bytes p.extra_1 p.extra_2
     ++ (pair_bytes p 0 ++ (pair_bytes p 1 ++ (pair_bytes p 2 ++ (pair_bytes p 3 ++ (pair_bytes p 4 ++ pair_bytes p 5)))))))
 
 -- whether byte i of a record is read, for a plan with its fields: dates and steps always; the cycle word with two steps or more; the

@@ -78,8 +78,8 @@ fn fields_of(s: &[u8; LENGTH]) -> Plan
         end: quad_at(s, 4),
         steps: s[8],
         word: s[9],
-        extra1: quad_at(s, 10),
-        extra2: quad_at(s, 14),
+        extra_1: quad_at(s, 10),
+        extra_2: quad_at(s, 14),
         widths: widths_of(s),
         prices: prices_of(s),
     }
@@ -127,9 +127,8 @@ fn pair_bytes(p: Plan, i: usize) -> [u8; 8]
     eight_bytes(p.widths[i].0 as u64, p.prices[i].0)
 }
 
-// The bytes of the six pairs. A loop over them was tried: it proves, and writing a plan then takes
-// 5 % more instructions. One `array::from_fn` was tried, and its proof did not close: nothing is
-// known of what a closure answers that answers an array.
+// The bytes of the six pairs, each named: a loop over them takes more instructions, and of
+// `array::from_fn` nothing is known where its closure answers an array.
 fn pairs_of(p: Plan) -> [[u8; 8]; Plan::MOST_STEPS]
     ensures { result ≡ six (pair_bytes p) }
 {
@@ -152,7 +151,7 @@ fn bytes_of(p: Plan) -> [u8; LENGTH]
     bytes[..8].copy_from_slice(&eight_bytes(p.start as u64, p.end as u64));
     bytes[8] = p.steps;
     bytes[9] = p.word;
-    bytes[10..18].copy_from_slice(&eight_bytes(p.extra1 as u64, p.extra2 as u64));
+    bytes[10..18].copy_from_slice(&eight_bytes(p.extra_1 as u64, p.extra_2 as u64));
     bytes[18..].copy_from_slice(pairs_of(p).as_flattened());
     bytes
 }

@@ -1,5 +1,5 @@
--- What is wrong with a line: the first of the faults of a content, whose texts are in replay_replies/specs/Errors.antt. The last fault, a line longer
--- than the program's buffer, is found where lines are read.
+-- What is wrong with a line: the first of the faults of a content, whose texts are in replay_replies/specs/Errors.antt. The last fault,
+-- a line longer than the program's buffer, is found where lines are read.
 use Rattle.std.specs.Prelude.{not, ◌||◌, List, ℕ, eqb, leb, Option, Some, None, Result, Ok, Err}
 use Rattle.refusal.specs.Refusal.{need}
 use Rattle.replay_lexer.specs.Words.{word_at, words_behind, has_gap}

@@ -38,9 +38,9 @@ pub enum Query {
 }
 
 // What a line says: one of four things, none of them an error. The record of a plan stands at the start
-// of a lent buffer; its length is beside the call, 0 for any other. `Call(Call, &[u8])` was tried, and
-// what `parse` promises could not be stated: no definition makes a reference, and a buffer that is
-// handed out in part has no value after the call.
+// of a lent buffer; its length is beside the call, 0 for any other. With `Call(Call, &[u8])` the promise
+// of `parse` could not be stated: no definition makes a reference, and a buffer that is handed out in
+// part has no value after the call.
 #[derive(Clone, Copy)]
 pub enum Request {
     Nothing,

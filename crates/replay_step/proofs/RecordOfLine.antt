@@ -23,7 +23,7 @@ use Rattle.replay_parser.specs.Faults.{made_as, form_in}
 use Rattle.replay_parser.specs.Requests.{request_for, record_by, request_by, bytes_by, request_in, record_in, request_of, record_of}
 use Rattle.replay_step.specs.ReplayStep.{size_of}
 
--- the record that a form has is as long as the order that it asks for says
+-- the record that a form has is as long as the request of its line says
 abbrev Fits : Form → Type 0
 Fits f = (s : List ℕ) → length (record_by f s) ≡ size_of (Ok (request_for f.kind s))
 

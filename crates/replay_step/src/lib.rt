@@ -1,5 +1,4 @@
-// The work of one line of a journal: what it says, carried out, and its answer put into a lent
-// buffer.
+// One line of a journal replayed: what it says, carried out, and its answer put into a lent buffer.
 #![tactic(auto)]
 
 ghost use Rattle.std.specs.Prelude.{◌≡◌, ◌*◌, ◌≤◌, length, take};
@@ -80,8 +79,8 @@ fn answered(
     }
 }
 
-// Replays a line: the audited meter after it, and its answer at the start of `out`. The line fits the scratch buffer as in
-// `replay_lexer::words::put_pairs`.
+// Replays a line: the audited meter after it, and its answer at the start of `out`. The line fits the
+// scratch buffer as in `replay_lexer::words::put_pairs`.
 pub fn replay_line(
     audited: AuditedMeter,
     number: u64,

@@ -1,4 +1,4 @@
--- The line's reader gives the order and the record, and the two halves of the work go by them.
+-- The line's reader gives the request and the record, and the call and the text go by them.
 use Rattle.replay_step.proofs.CallThenText.{answer, replayed}
 use Rattle.replay_step.proofs.replay_line.Goals as goal
 
