@@ -72,7 +72,8 @@ class Function:
         self.paths, owner = owner_of(block) if block else ([module], module)
         is_impl_of = bool(block) and ' for ' in (block[3] or '')
         at_home = block and module not in ('lib', 'main') and (is_impl_of or re.search(r'^(?:pub )?(?:struct|enum|trait) %s\b' % owner, text, re.M))
-        self.is_free, owner = not block, [module, owner] if at_home else [owner]  # a type or an impl of a trait in a module has its name before its own
+        # a type or an impl of a trait in a module has its name before its own
+        self.is_free, owner = not block, [module, owner] if at_home else [owner]
         of_trait = bool(block) and (block[1] or ' for ' in block[3]) and 'ghost ' in text[block.start():head.start()]
         owner = [] if owner in (['lib'], ['main']) else owner
         self.name, self.place = '::'.join(owner + [head.group(3)]), place

@@ -29,7 +29,7 @@ builds() {
     if [ "$is_proved" != proved ]; then
         (cd crates/harpdapple && rt lib) || return
     elif ! [ -f "$library" ]; then
-        tests/proved.py host || return
+        tests/proved.py harpdapple || return
     fi
     [ -f "$library" ]
 }

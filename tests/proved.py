@@ -2,7 +2,7 @@
 """What `rt ci` has just proved in this checkout, for the tests that follow it in .ci/run.
 
   tests/proved.py clear    before rt ci: removes the libraries that an earlier rt ci left, which this one would put back in their place
-  tests/proved.py host     after it: builds the C library over the libraries that it has proved
+  tests/proved.py harpdapple     after it: builds the C library over the libraries that it has proved
 
 `rt ci` leaves each library in crates/NAME/out/rlib, with its statements and its code. `rt lib` takes none of these and proves all of them
 again; a command of rattle itself takes them. Where other commands have left libraries of their own, each with a stamp, rt ci puts those back,

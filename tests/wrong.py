@@ -45,7 +45,8 @@ PLACED = re.compile(r'(note: )?(?:\./)?((?:src|specs|proofs)/[^\s:]+):(\d+):\d+:
 
 
 def checked(crate, scratch, kept, only):
-    """Checks the crate as it stands in the folder `scratch`, or some functions of it, over the modules in `kept`; the status and what the prover said."""
+    """Checks the crate as it stands in the folder `scratch`, or some functions of it, over the modules in `kept`; the status and what the
+    prover said."""
     more = ['--incremental', kept, '--jobs', '1', *(word for name in only for word in ('--only', crate.name + '::' + name))]
     done = subprocess.run([f'{KIT}/bin/rattle', 'check', *words(crate.name), *more], cwd=scratch, capture_output=True, text=True, errors='replace')
     return done.returncode, done.stdout + done.stderr
@@ -153,7 +154,8 @@ def fault_of(edit, log, run):
 
 
 def asked(run):
-    """The functions that a run checks: those that its edits are for, and those that name a definition that one changes. None of them is the whole crate."""
+    """The functions that a run checks: those that its edits are for, and those that name a definition that one changes. None of them is the
+    whole crate."""
     found = []
     for edit in run:
         shows = [it for it in edit.crate.rests.shows(edit) if isinstance(it, Function)] if edit.blocks else []
