@@ -12,13 +12,14 @@ use Rattle.state.specs.State.{State, state_with, alone, registers_of}
 use Rattle.state.specs.Turn.{turn, Turned}
 use Rattle.state.specs.Pulsed.{pulsed, pulse_codes}
 use Rattle.state.specs.Refusals.{stamp_refusal}
+use Rattle.state.specs.Course.{Ran}
 use Rattle.meter.specs.declared.Meter.{Meter}
 use Rattle.meter.specs.declared.Accepted.{Accepted}
 use Rattle.meter.specs.Call.{Call, pulses, recharge, load, alarms, command, key, tick, stamp_of}
 use Rattle.meter.specs.Refusals.{own_refusal, refusal_of}
 use Rattle.meter.specs.Effects.{effect_of, codes_of}
 use Rattle.meter.specs.Machine.{accepted_state, accepted_codes, state_after, state_in, after_call, Answers}
-use Rattle.meter.specs.Course.{Ran, effect_by}
+use Rattle.meter.specs.Accepted.{effect_by}
 
 -- the refusal of a call whose stamp is admitted is its own, in any world
 pub refusal-own : (w : World) (s : State) (c : Call) → stamp_refusal w s (stamp_of c) ≡ Ok tt → refusal_of w s c ≡ own_refusal w s c
@@ -70,7 +71,7 @@ module _ (m : Meter) (c : Call) where
 
   -- by the course of the call, where its own test tells its own refusals, and its effect is that of the call
   pub answered : {T : Type 0} (own : Result T Refusal → Type 0) (effect : RegistersAndCodes → T → Accepted → Type 0) (r : Result Accepted Refusal) {words : List ℕ} →
-      Ran m (stamp_of c) own effect r words → ((n : Refusal) → own (Err n) → own_refusal real (state_in m) c ≡ Err n) →
+      Ran m.machine.registers m.held (stamp_of c) own effect r words → ((n : Refusal) → own (Err n) → own_refusal real (state_in m) c ≡ Err n) →
       ((x : T) → own (Ok x) → own_refusal real (state_in m) c ≡ Ok tt) → ((x : T) (t : RegistersAndCodes) (o : Accepted) → own (Ok x) → effect t x o → o ≡ effect_by t c) →
       Answers m c r words
   unfolding refusal_of

@@ -2,5 +2,5 @@ pub mod Call
 pub mod Refusals
 pub mod Effects
 pub mod Machine
-pub mod Course
+pub mod Accepted
 pub mod Step

@@ -1,52 +1,17 @@
-// The seven calls. The course of six stands once, in `run`: each gives it its own refusals and its
-// effect. Document 01 names the form in which a call takes the admitted date: by `let .. else`.
-// Closures and no trait for a call: an `impl` of its stamp, refusals and effect is longer.
+// The seven calls. The course of six stands once, in `Registers::run` of crate `state`: each gives it its own refusals and its effect.
+// Closures and no trait for a call: an `impl` of its stamp, refusals and effect is longer. A closure takes a call's arguments by value,
+// which the checker reads sooner than references.
 // Pulses have a course of their own, for speed and stack (docs/BENCHMARKS.md): no day turns on the
 // clock's own date, and the plan in force is then the one that was looked up before admission.
-ghost use Rattle.std.specs.Prelude.{◌≡◌, List, ℕ, Ok};
-ghost use Rattle.refusal.specs.Refusal.{next};
-ghost use Rattle.plan_record.specs.PlanRecord.{read_of, plan_in};
-ghost use Rattle.slots.specs.World.{real};
-ghost use Rattle.slots.specs.Load.{slot_named, load_refusal};
-ghost use Rattle.state.specs.declared.RegistersAndCodes.{RegistersAndCodes};
-ghost use Rattle.state.specs.State.{state_of};
-ghost use Rattle.state.specs.Refusals.{stamp_refusal};
 ghost use Rattle.meter.specs.Call.{pulses as pulses_call, recharge as recharge_call, load as load_call, alarms as alarms_call, command as command_call, key as key_call, tick as tick_call, call_of};
 ghost use Rattle.meter.specs.Machine.{meter_of, Answers};
-ghost use Rattle.meter.specs.Course.{Checked, Ran};
 
 use crate::{Accepted, Alarms, Call, Command, Key, Load, Machine, Pulses, Recharge, Tick, effects};
-use account::{Codes, Event};
-use calendar::Stamp;
-use plan::Plan;
+use account::Codes;
 use records::held::Words;
 use refusal::{Refusal, need};
-use slots::SlotName;
-use state::RegistersAndCodes;
 
 impl Machine {
-    // The course of each call but pulses: refused by its stamp, or by `check` on the admitted date;
-    // else the day turns, and the effect takes what `check` read.
-    fn run<T, V: FnOnce(u32) -> Result<T, Refusal>, E: FnOnce(RegistersAndCodes, T) -> Accepted>(
-        &self,
-        words: &mut Words,
-        stamp: Stamp,
-        check: V,
-        effect: E,
-    ) -> Result<Accepted, Refusal>
-        requires checks { stamp_refusal real (state_of self.now.registers words.old) stamp ≡ Ok tt → V.pre check stamp.date }
-        requires acts { (x : T) (t : RegistersAndCodes) (w : List ℕ) → Checked (meter_of self.now words.old) stamp (V.post check stamp.date) x t w → E.pre effect t x }
-        ensures { Ran (meter_of self.now words.old) stamp (V.post check stamp.date) (E.post effect) result words.new }
-    {
-        let some = self.registers.slots.any_in_force(self.registers.clock.date);
-        let admitted = self.registers.admit(words, some, stamp);
-        let Ok(date) = admitted else {
-            return Err(admitted.unwrap_err());
-        };
-        let own = check(date)?;
-        Ok(effect(self.registers.turn(words, date, stamp), own))
-    }
-
     // Pulses, n of them.
     pub fn pulses(self, words: &mut Words, p: Pulses) -> Result<Accepted, Refusal>
         ensures { Answers (meter_of self words.old) (pulses_call p) result words.new }
@@ -73,37 +38,22 @@ impl Machine {
     pub fn recharge(self, words: &mut Words, p: Recharge) -> Result<Accepted, Refusal>
         ensures { Answers (meter_of self words.old) (recharge_call p) result words.new }
     {
-        self.run(
+        self.registers.run(
             words,
             p.stamp,
             |_| self.registers.account.recharge_refusal(p.amount, p.serial),
-            |t, ()| effects::noted(
-                t,
-                t.registers.account.recharged(p.amount, p.serial),
-                Event::Recharged,
-            ),
+            move |t, ()| effects::recharged(t, p),
         )
-    }
-
-    // Refusals 10, 1 to 7, 11 and 12 of a load; or its slot and its plan.
-    #[tactic(auto, unfolding(slots::specs::Load::load_refusal))]
-    fn checked_load(&self, p: Load, bytes: &[u8], date: u32) -> Result<(SlotName, Plan), Refusal>
-        ensures { result ≡ next (load_refusal real self.now.registers.slots date p.slot (read_of bytes.now)) (Ok (slot_named p.slot, plan_in (read_of bytes.now))) }
-    {
-        let slot = SlotName::try_from(p.slot)?;
-        let plan = plan_record::read(bytes)?;
-        self.registers.slots.in_force_refusal(date, slot, plan)?;
-        Ok((slot, plan))
     }
 
     // A plan loaded into a slot; the record is a lent slice of any length.
     pub fn load(self, words: &mut Words, p: Load, bytes: &[u8]) -> Result<Accepted, Refusal>
         ensures { Answers (meter_of self words.old) (load_call p bytes.now) result words.new }
     {
-        self.run(
+        self.registers.run(
             words,
             p.stamp,
-            |date| self.checked_load(p, bytes, date),
+            |date| self.registers.slots.checked_load(date, p.slot, bytes),
             |t, (slot, plan)| effects::loaded(t, slot, plan),
         )
     }
@@ -112,15 +62,11 @@ impl Machine {
     pub fn alarms(self, words: &mut Words, p: Alarms) -> Result<Accepted, Refusal>
         ensures { Answers (meter_of self words.old) (alarms_call p) result words.new }
     {
-        self.run(
+        self.registers.run(
             words,
             p.stamp,
-            |_| need(account::alarms_good(p.alarm_1, p.alarm_2), Refusal::Alarms),
-            |t, ()| effects::noted(
-                t,
-                t.registers.account.alarmed(p.alarm_1, p.alarm_2),
-                Event::Set,
-            ),
+            move |_| need(account::alarms_good(p.alarm_1, p.alarm_2), Refusal::Alarms),
+            move |t, ()| effects::alarmed(t, p),
         )
     }
 
@@ -128,11 +74,11 @@ impl Machine {
     pub fn command(self, words: &mut Words, p: Command) -> Result<Accepted, Refusal>
         ensures { Answers (meter_of self words.old) (command_call p) result words.new }
     {
-        self.run(
+        self.registers.run(
             words,
             p.stamp,
-            |_| need((p.code == 0) | (p.code == 1), Refusal::Command),
-            |t, ()| effects::commanded(t, p),
+            move |_| need((p.code == 0) | (p.code == 1), Refusal::Command),
+            move |t, ()| effects::commanded(t, p),
         )
     }
 
@@ -140,11 +86,11 @@ impl Machine {
     pub fn key(self, words: &mut Words, p: Key) -> Result<Accepted, Refusal>
         ensures { Answers (meter_of self words.old) (key_call p) result words.new }
     {
-        self.run(
+        self.registers.run(
             words,
             p.stamp,
             |date| need(self.registers.key_allowed(date), Refusal::Key),
-            |t, ()| effects::opened(t),
+            move |t, ()| effects::opened(t, p),
         )
     }
 
@@ -152,7 +98,8 @@ impl Machine {
     pub fn tick(self, words: &mut Words, p: Tick) -> Result<Accepted, Refusal>
         ensures { Answers (meter_of self words.old) (tick_call p) result words.new }
     {
-        self.run(words, p.stamp, |_| Ok(()), |t, ()| Accepted::from(t))
+        self.registers
+            .run(words, p.stamp, |_| Ok(()), |t, ()| Accepted::from(t))
     }
 
     // Any of the calls; a load alone looks at the bytes.

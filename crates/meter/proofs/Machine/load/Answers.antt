@@ -15,7 +15,7 @@ use Rattle.meter.specs.Call.{load}
 use Rattle.meter.specs.Refusals.{own_refusal}
 use Rattle.meter.specs.Effects.{effect_of, codes_of}
 use Rattle.meter.specs.Machine.{meter_of}
-use Rattle.meter.specs.Course.{accepted_of}
+use Rattle.meter.specs.Accepted.{accepted_of}
 use Rattle.meter.proofs.AnswersByRefusal.{answered}
 use Rattle.meter.proofs.Machine.load.Goals as goal
 

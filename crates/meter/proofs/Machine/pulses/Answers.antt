@@ -2,6 +2,7 @@
 -- it is turned first or stands.
 use Rattle.std.proofs.Common.{◌≡◌, List, ℕ, ◌+◌, ◌≤◌, refl, sym, ap, subst, ◌∙◌, arith}
 use Rattle.std.specs.Prelude.{Ok}
+use Rattle.units.specs.Volume.{highest_total}
 use Rattle.calendar.specs.declared.Stamp.{Stamp}
 use Rattle.account.specs.declared.Codes.{Codes}
 use Rattle.account.specs.Codes.{no_codes, note_all}
@@ -24,7 +25,7 @@ use Rattle.meter.specs.Call.{pulses}
 use Rattle.meter.specs.Refusals.{own_refusal}
 use Rattle.meter.specs.Effects.{effect_of, codes_of}
 use Rattle.meter.specs.Machine.{meter_of, state_in}
-use Rattle.meter.specs.Course.{accepted_of}
+use Rattle.meter.specs.Accepted.{accepted_of}
 use Rattle.meter.proofs.AnswersByRefusal.{not-admitted, denied, accepts}
 use Rattle.meter.proofs.Machine.pulses.Goals as goal
 use Rattle.meter.proofs.Machine.pulses.Goals.{then-self-date, else-self-date}
@@ -97,7 +98,7 @@ pulsed-requires c =
     record {
       good = rw e.registers (alone-good _ (turned-good m s a.passed));
       in_force = e.in_force ∙ sym (ap (λ (x : State). in_force_on real x.slots s.date) e.registers);
-      total = subst (λ (x : State). x.volumes.total.0 + c.args.p.count.0 ≤ 99999999) (sym e.registers)
+      total = subst (λ (x : State). x.volumes.total.0 + c.args.p.count.0 ≤ highest_total) (sym e.registers)
           (pulses-fit m s c.args.p.count.0 (sym c.in_ok-pulse_refusal.ensures));
     }
 

@@ -9,7 +9,6 @@ use Rattle.state.proofs.TurnKeepsBounds.{turn-account}
 use Rattle.state.proofs.Headroom.{state, small-balance, low-serial, small-amount}
 use Rattle.meter.specs.Call.{recharge}
 use Rattle.meter.specs.Refusals.{own_refusal}
-use Rattle.meter.specs.Effects.{effect_of, codes_of}
 use Rattle.meter.specs.Machine.{meter_of, state_in}
 use Rattle.meter.proofs.AnswersByRefusal.{answered}
 use Rattle.meter.proofs.Machine.recharge.Goals as goal
@@ -32,5 +31,5 @@ run-requires-clause-acts c x t w b =
     search (rules, small, small-amount m c.args.p.amount.0 c.args.p.serial s own)
 
 pub returns : goal.returns
-unfolding own_refusal effect_of codes_of state_with
+unfolding own_refusal state_with
 returns c = answered (meter_of c.args.self c.args.words.now) (recharge c.args.p) _ _ _ c.run.ensures (λ n e. search rules) (λ x e. search rules) (λ x t o e i. search rules)
