@@ -12,7 +12,7 @@ use Rattle.refusal.proofs.Tests.{split}
 use Rattle.records.specs.declared.Record.{Record}
 use Rattle.records.specs.declared.OpenPeriod.{OpenPeriod}
 use Rattle.records.specs.declared.Periods.{Periods}
-use Rattle.records.specs.Records.{Held}
+use Rattle.records.specs.Records.{day_limit, month_limit, Held}
 use Rattle.records.specs.Bounds.{record_good, records_good, period_good, periods_good, held_good}
 
 -- a volume and a charge within the bounds
@@ -22,8 +22,8 @@ pub record Within (total volume charge : ℕ) : Type 0 where
 
 -- the held records within the bounds
 pub record AllGood (top total : ℕ) (h : Held) : Type 0 where
-  pub day_few : length h.days ≤ 62
-  pub month_few : length h.months ≤ 120
+  pub day_few : length h.days ≤ day_limit
+  pub month_few : length h.months ≤ month_limit
   pub days : records_good top total h.days ≡ true
   pub months : records_good top total h.months ≡ true
 
@@ -70,8 +70,8 @@ module _ (top total : ℕ) where
   held-are h g =
       let ds = records_good top total h.days in
       let ms = records_good top total h.months in
-      let a = split {a = leb (length h.days) 62} {b = leb (length h.months) 120 && (ds && ms)} g in
-      let b = split {a = leb (length h.months) 120} {b = ds && ms} a.1 in
+      let a = split {a = leb (length h.days) day_limit} {b = leb (length h.months) month_limit && (ds && ms)} g in
+      let b = split {a = leb (length h.months) month_limit} {b = ds && ms} a.1 in
       let c = split {a = ds} {b = ms} b.1 in
       record { day_few = leb-true _ _ a.0; month_few = leb-true _ _ b.0; days = c.0; months = c.1 }
 

@@ -9,13 +9,14 @@ use borrow.Author.Tests.{eqb-true}
 use lib.Dec.{eqb}
 use lib.ListN.{take, length, length-take}
 use Rattle.units.specs.declared.Millionths.{Millionths}
+use Rattle.units.specs.Volume.{most_of}
 use Rattle.units.specs.Money.{in_bounds}
 use Rattle.units.proofs.Balance.{total-in}
 use Rattle.refusal.proofs.Tests.{either, split}
 use Rattle.records.specs.declared.Record.{Record}
 use Rattle.records.specs.declared.OpenPeriod.{OpenPeriod}
 use Rattle.records.specs.declared.Periods.{Periods}
-use Rattle.records.specs.Records.{record_of, nothing, Held, in_front}
+use Rattle.records.specs.Records.{record_of, nothing, day_limit, month_limit, Held, in_front}
 use Rattle.records.specs.Turn.{opened, closed, period_counted, counted, later_month, day_record, month_record}
 use Rattle.records.specs.Bounds.{record_good, records_good, period_good, periods_good, held_good, is_fresh_period, is_fresh_periods, is_fresh_held}
 use Rattle.records.proofs.BoundsInParts.{Within, period-is, is-period, periods-are, are-periods, record_is, is-record, held-are, are-held}
@@ -38,7 +39,7 @@ module _ (top total n : ℕ) where
       record { day_few = p.day_few; month_few = p.month_few; days = records-grown h.days p.days; months = records-grown h.months p.months }
 
   -- pulses that are counted keep the bounds of the total that they bring
-  pub counted-good : (c : ℕ) (p : Periods) → c ≤ n * 99999999 → periods_good total p ≡ true → periods_good (total + n) (counted p n c) ≡ true
+  pub counted-good : (c : ℕ) (p : Periods) → c ≤ most_of n → periods_good total p ≡ true → periods_good (total + n) (counted p n c) ≡ true
   unfolding counted
   counted-good c p k h =
       let g = periods-are total p h in
@@ -92,12 +93,12 @@ module _ (top total : ℕ) where
       let month = month_record p from closing in
       are-held top total (closed h p from to closing)
       record {
-        day_few = front-few 62 day h.days;
-        month_few = either (λ (l : List Record). length l ≤ 120) (later_month from to) (λ _. front-few 120 month h.months) (λ _. a.month_few);
-        days = front-good 62 day h.days (ended-good from p.day closing t.0 b) a.days;
+        day_few = front-few day_limit day h.days;
+        month_few = either (λ (l : List Record). length l ≤ month_limit) (later_month from to) (λ _. front-few month_limit month h.months) (λ _. a.month_few);
+        days = front-good day_limit day h.days (ended-good from p.day closing t.0 b) a.days;
         months =
             either (λ (l : List Record). records_good top total l ≡ true) (later_month from to)
-            (λ _. front-good 120 month h.months (ended-good _ p.month closing t.1 b) a.months)
+            (λ _. front-good month_limit month h.months (ended-good _ p.month closing t.1 b) a.months)
             (λ _. a.months);
       }
 

@@ -1,7 +1,8 @@
 -- What the bounds of the open periods tell a caller. Assumes nothing.
 use mathlib.Core.Path.{◌≡◌}
 use mathlib.Core.Bool.{true}
-use Prim.Native.Nat.{ℕ, ◌*◌, ◌≤◌}
+use Prim.Native.Nat.{ℕ, ◌≤◌}
+use Rattle.units.specs.Volume.{most_of}
 use Rattle.records.specs.declared.Periods.{Periods}
 use Rattle.records.specs.Bounds.{periods_good}
 use Rattle.records.proofs.BoundsInParts.{period-is, periods-are}
@@ -10,8 +11,8 @@ use Rattle.records.proofs.BoundsInParts.{period-is, periods-are}
 pub record PeriodsBounds (total : ℕ) (p : Periods) : Type 0 where
   pub day_volume : p.day.volume.0 ≤ total
   pub month_volume : p.month.volume.0 ≤ total
-  pub day_charge : p.day.charge.0 ≤ total * 99999999
-  pub month_charge : p.month.charge.0 ≤ total * 99999999
+  pub day_charge : p.day.charge.0 ≤ most_of total
+  pub month_charge : p.month.charge.0 ≤ most_of total
 
 pub periods-bounds : (total : ℕ) (p : Periods) → periods_good total p ≡ true → PeriodsBounds total p
 periods-bounds total p h =

@@ -11,7 +11,7 @@ use Rattle.records.specs.declared.Shelf.{Shelf}
 use Rattle.records.specs.declared.Shelf.TheVariants.{Day, Month}
 use Rattle.records.specs.Records.{no_record}
 use Rattle.records.specs.Queries.{fetched}
-use Rattle.records.specs.Words.{shelf_place, record_at, rows, held_from, held_on}
+use Rattle.records.specs.Words.{day_place, month_place, shelf_place, record_at, rows, held_from, held_on}
 
 -- as many are held as the count says
 rows_long : (h : List ℕ) (at n : ℕ) → length (rows h at n) ≡ n
@@ -24,8 +24,8 @@ unfolding held_from
 held-long from h = rows_long h (from + 1) (get_or h from 0)
 
 pub shelf_long : (s : Shelf) (h : List ℕ) → length (held_on s h) ≡ get_or h (shelf_place s) 0
-shelf_long Day h = held-long 0 h
-shelf_long Month h = held-long 187 h
+shelf_long Day h = held-long day_place h
+shelf_long Month h = held-long month_place h
 
 -- record k begins three words behind the one before it
 row_at : (h : List ℕ) (from n k : ℕ) → k < n → record_at h (from + 3 * k + 1) ≡ get_or (rows h (from + 1) n) k no_record
@@ -41,8 +41,8 @@ pub shelf_at : (s : Shelf) (h : List ℕ) (k : ℕ)
     → k < length (held_on s h)
     → record_at h (shelf_place s + 3 * k + 1) ≡ get_or (held_on s h) k no_record
 unfolding held_from
-shelf_at Day h k p = row_at h 0 (get_or h 0 0) k (omega (arith, held-long 0 h))
-shelf_at Month h k p = row_at h 187 (get_or h 187 0) k (omega (arith, held-long 187 h))
+shelf_at Day h k p = row_at h day_place (get_or h day_place 0) k (omega (arith, held-long day_place h))
+shelf_at Month h k p = row_at h month_place (get_or h month_place 0) k (omega (arith, held-long month_place h))
 
 -- record k of a list: it is there, or the list is no longer than k
 pub fetched_held : (l : List Record) (k : ℕ) → k < length l → fetched l k ≡ Ok (get_or l k no_record)

@@ -5,6 +5,7 @@ use mathlib.Core.List.{List, []}
 use Prim.Native.Nat.{ℕ, ◌+◌, ◌^◌, ◌≤◌, ◌<◌}
 use native.Mathlib.Omega.{arith}
 use lib.Dec.{leb, ltb}
+use Rattle.units.specs.Volume.{highest_total}
 use Rattle.units.specs.Money.{Small, highest_balance}
 use Rattle.std.specs.Prelude.{Ok}
 use Rattle.refusal.specs.declared.Refusal.TheVariants.{Pulses, Total}
@@ -13,7 +14,7 @@ use borrow.Author.Tests.{le-ltb, leb-true}
 use Rattle.calendar.specs.declared.Stamp.{Stamp}
 use Rattle.calendar.specs.Date.{is_date}
 use Rattle.calendar.proofs.Stamps.{not-before-date}
-use Rattle.account.specs.Account.{recharge_refusal}
+use Rattle.account.specs.Account.{highest_serial, recharge_refusal}
 use Rattle.account.proofs.BoundsKept.{account-bounds, recharge-small}
 use Rattle.records.specs.Turn.{HasHeadroom}
 use Rattle.records.proofs.PeriodsBounds.{periods-bounds}
@@ -66,7 +67,7 @@ pub record PulseHeadroom (m : State) (n : ℕ) : Type 0 where
   pub day : HasHeadroom m.periods.day n (added_charge real m.slots m.clock.date n)
   pub month : HasHeadroom m.periods.month n (added_charge real m.slots m.clock.date n)
 
-pub pulse-headroom : (m : State) (n : ℕ) → state_good real m ≡ true → m.volumes.total.0 + n ≤ 99999999 → PulseHeadroom m n
+pub pulse-headroom : (m : State) (n : ℕ) → state_good real m ≡ true → m.volumes.total.0 + n ≤ highest_total → PulseHeadroom m n
 pulse-headroom m n h t =
     let s = state-in real m h in
     let a = slots-in real m.slots m.clock.date m.volumes.total.0 s.slots in
@@ -85,7 +86,7 @@ pulse-headroom m n h t =
     }
 
 -- after an accepted test of the count, on the turned meter
-pub pulses-fit : (m : State) (s : Stamp) (n : ℕ) → pulse_refusal m.volumes n ≡ Ok tt → (turn real m s).volumes.total.0 + n ≤ 99999999
+pub pulses-fit : (m : State) (s : Stamp) (n : ℕ) → pulse_refusal m.volumes n ≡ Ok tt → (turn real m s).volumes.total.0 + n ≤ highest_total
 unfolding pulse_refusal
 pulses-fit m s n h = rw (turn-volumes real m s) (leb-true _ _ (need-both Total {a = Ok tt} (need-both {b = leb n most_pulses} Pulses h).1).0)
 
@@ -143,7 +144,7 @@ same-in-force m s h l =
 pub small-balance : (m : State) → Parts real m → Small m.account.balance.0
 small-balance m s = (account-bounds m.account m.volumes.total.0 s.account (total-low real m s)).small
 
-pub low-serial : (m : State) → Parts real m → m.account.serial ≤ 65535
+pub low-serial : (m : State) → Parts real m → m.account.serial ≤ highest_serial
 low-serial m s = (account-bounds m.account m.volumes.total.0 s.account (total-low real m s)).serial
 
 pub small-amount : (m : State) (amount serial : ℕ) → Parts real m → recharge_refusal m.account amount serial ≡ Ok tt → amount ≤ 2 ^ 55

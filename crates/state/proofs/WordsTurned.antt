@@ -10,7 +10,7 @@ use lib.Signed.{mag}
 use Rattle.refusal.proofs.Tests.{cases}
 use Rattle.calendar.specs.declared.Stamp.{Stamp}
 use Rattle.calendar.proofs.Days.{real as real-date}
-use Rattle.records.specs.Words.{held_of}
+use Rattle.records.specs.Words.{word_count, held_of}
 use Rattle.records.proofs.AfterTurn.{closed-held, closed-long}
 use Rattle.slots.specs.World.{real}
 use Rattle.state.specs.declared.Registers.{Registers}
@@ -19,8 +19,8 @@ use Rattle.state.specs.Bounds.{no_clock, bounded}
 use Rattle.state.specs.Turn.{turn, turned_to, turn_words}
 use Rattle.state.proofs.Headroom.{state, clocked, small-balance}
 
-module _ (r : Registers) (words : List ℕ) (s : Stamp) (long : length words ≡ 548) where
-  pub turn-long : length (turn_words r s words) ≡ 548
+module _ (r : Registers) (words : List ℕ) (s : Stamp) (long : length words ≡ word_count) where
+  pub turn-long : length (turn_words r s words) ≡ word_count
   unfolding turn_words state_with
   turn-long = cases (ltb r.clock.date s.date)
       (λ l. rw l (cases (no_clock r.clock)
