@@ -34,7 +34,7 @@ pub fn meter_of(host: &library::Meter) -> Result<Meter, Broken> {
     limits.volume(host.volumes.unpriced, "unpriced volume")?;
     limits.volume(host.slots.usage, "usage")?;
     limits.balance(account.balance, "balance")?;
-    let journal = &host.records;
+    let records = &host.records;
     let meter = Meter {
         clock: Some(clock),
         balance: account.balance,
@@ -46,10 +46,10 @@ pub fn meter_of(host: &library::Meter) -> Result<Meter, Broken> {
         usage: host.slots.usage as u64,
         allow: host.valve.allow == 1,
         open: host.valve.open == 1,
-        day: limits.period(&journal.day, "open day's volume", "open day's charge")?,
-        month: limits.period(&journal.month, "open month's volume", "open month's charge")?,
-        days: limits.records(journal.days.count, &journal.days.held, DAYS, "day records")?.into(),
-        months: limits.records(journal.months.count, &journal.months.held, MONTHS, "month records")?.into(),
+        day: limits.period(&records.day, "open day's volume", "open day's charge")?,
+        month: limits.period(&records.month, "open month's volume", "open month's charge")?,
+        days: limits.records(records.days.count, &records.days.held, DAYS, "day records")?.into(),
+        months: limits.records(records.months.count, &records.months.held, MONTHS, "month records")?.into(),
     };
     let without_plan = meter.slot_on(clock.date).is_none();
     must(!without_plan || meter.usage == 0, "usage 0 with no plan in force")?;

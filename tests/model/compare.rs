@@ -28,7 +28,7 @@ pub fn words(answer: &Result<Vec<u32>, u8>) -> String {
 }
 
 /// The reply that the header asks for: what is not said is 0.
-fn reply_of(answer: &Result<Vec<u32>, u8>) -> library::CodesReply {
+fn codes_reply(answer: &Result<Vec<u32>, u8>) -> library::CodesReply {
     let mut reply = library::CodesReply::default();
     match answer {
         Err(refusal) => reply.refusal = *refusal,
@@ -67,7 +67,7 @@ impl Pair {
             Err(_) => Err(0),
         };
         seen.calls += 1;
-        if reply != reply_of(&answer) {
+        if reply != codes_reply(&answer) {
             return Err(format!("library: {}\nmodel: {}", reply_words(&reply), words(&answer)));
         }
         if lent != *call {
@@ -145,7 +145,7 @@ fn record_of(record: &Record) -> library::Record {
 /// The first field in which the library's meter is not the model's; records beyond the count are not looked at.
 pub fn difference(model: &Meter, host: &library::Meter) -> Option<Difference> {
     let (date, second) = model.clock.map_or((0, 0), |clock| (clock.date.number(), clock.second));
-    let journal = &host.records;
+    let records = &host.records;
     let fields: [(&str, i128, i128); 19] = [
         ("clock's date", date as i128, host.clock.date as i128),
         ("clock's second", second as i128, host.clock.second as i128),
@@ -160,12 +160,12 @@ pub fn difference(model: &Meter, host: &library::Meter) -> Option<Difference> {
         ("unpriced volume", model.unpriced as i128, host.volumes.unpriced as i128),
         ("station's mark", model.allow as i128, host.valve.allow as i128),
         ("valve", model.open as i128, host.valve.open as i128),
-        ("open day's volume", model.day.volume as i128, journal.day.volume as i128),
-        ("open day's charge", model.day.charge as i128, journal.day.charge as i128),
-        ("open month's volume", model.month.volume as i128, journal.month.volume as i128),
-        ("open month's charge", model.month.charge as i128, journal.month.charge as i128),
-        ("day records held", model.days.len() as i128, journal.days.count as i128),
-        ("month records held", model.months.len() as i128, journal.months.count as i128),
+        ("open day's volume", model.day.volume as i128, records.day.volume as i128),
+        ("open day's charge", model.day.charge as i128, records.day.charge as i128),
+        ("open month's volume", model.month.volume as i128, records.month.volume as i128),
+        ("open month's charge", model.month.charge as i128, records.month.charge as i128),
+        ("day records held", model.days.len() as i128, records.days.count as i128),
+        ("month records held", model.months.len() as i128, records.months.count as i128),
     ];
     for (name, model, library) in fields {
         if model != library {
@@ -173,8 +173,8 @@ pub fn difference(model: &Meter, host: &library::Meter) -> Option<Difference> {
         }
     }
     plans_differ(model, host)
-        .or_else(|| records_differ("day", model.days.iter(), &journal.days.held))
-        .or_else(|| records_differ("month", model.months.iter(), &journal.months.held))
+        .or_else(|| records_differ("day", model.days.iter(), &records.days.held))
+        .or_else(|| records_differ("month", model.months.iter(), &records.months.held))
 }
 
 /// Plans are the same where their read fields are.

@@ -7,7 +7,7 @@ use crate::meters::limit;
 use crate::model::{MOST_ALARM, TOP_BALANCE};
 use crate::plan::{Cycle, Plan, Step, MOST};
 use crate::random::Random;
-use crate::records;
+use crate::plan_records;
 
 pub type Change = fn(&mut Random, &mut Meter);
 
@@ -63,7 +63,7 @@ pub const INSIDE: [(&str, Change); 25] = [
 
 /// Every bound, broken alone, with the bound that the model must name.
 pub const OUTSIDE: [(&str, Broken, Change); 30] = [
-    ("clock's date", "clock", |r, m| m.clock.date = r.pick(&records::NO_DATES[1..])),
+    ("clock's date", "clock", |r, m| m.clock.date = r.pick(&plan_records::NO_DATES[1..])),
     ("clock's date a large number", "clock", |r, m| m.clock.date = r.pick(&[u32::MAX, 120_200_101, 1])),
     ("clock's second", "clock", |r, m| m.clock.second = r.pick(&[LAST_SECOND + 1, u32::MAX])),
     ("last serial", "last serial", |r, m| m.account.serial = r.pick(&[65_536, u32::MAX])),
@@ -149,9 +149,9 @@ pub fn break_plan(r: &mut Random, meter: &mut Meter, refusal: u8) {
     running(meter);
     let date = clock(meter);
     loop {
-        let good = records::plan(r, date, records::ANY_SPAN, None);
-        let mut plan = records::host_plan(r, &good);
-        records::damage_host(r, &mut plan);
+        let good = plan_records::plan(r, date, plan_records::ANY_SPAN, None);
+        let mut plan = plan_records::host_plan(r, &good);
+        plan_records::damage_host(r, &mut plan);
         if Plan::of_host(&plan) == Err(refusal) {
             meter.slots.slot_2.plan = plan;
             return;

@@ -6,7 +6,7 @@ use crate::library;
 use crate::model::{Meter, MILLIONTHS, MOST_ALARM, MOST_PULSES, TOP_BALANCE};
 use crate::plan::MOST;
 use crate::random::Random;
-use crate::records::{self, Span, ANY_SPAN};
+use crate::plan_records::{self, Span, ANY_SPAN};
 use crate::stamps::{bad_stamp, host, next_stamp, Pace, Pace::*};
 
 /// What a list is like.
@@ -134,13 +134,13 @@ fn load(r: &mut Random, meter: &Meter, stamp: library::Stamp, date: Date, wrong:
     };
     let mut slot = free as u32 + 1;
     let other = if r.one_in(8) { None } else { meter.slots[1 - free] };
-    let plan = records::plan(r, date, span, other);
-    let mut bytes = records::record(r, &plan);
+    let plan = plan_records::plan(r, date, span, other);
+    let mut bytes = plan_records::record(r, &plan);
     if wrong && r.one_in(6) {
         slot = r.pick(&[0, 3, 4, 256, 257, 258, 65_537, u32::MAX]);
     }
     if wrong || r.one_in(12) {
-        records::damage(r, &mut bytes);
+        plan_records::damage(r, &mut bytes);
     }
     Call::Load { stamp, slot, bytes }
 }

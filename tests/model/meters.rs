@@ -5,7 +5,7 @@ use crate::library::{self, Meter, Record, Slot, DAYS, MONTHS};
 use crate::model::{MOST_ALARM, TOP_BALANCE};
 use crate::plan::{Plan, MOST};
 use crate::random::Random;
-use crate::records;
+use crate::plan_records;
 
 /// What a charge may come to.
 pub fn limit(meter: &Meter) -> i64 {
@@ -50,7 +50,7 @@ pub fn good(r: &mut Random) -> Meter {
         let period = library::OpenPeriod { volume: r.upto(total) as u32, charge: r.upto(limit(&meter) as u64) };
         *(if i == 0 { &mut meter.records.day } else { &mut meter.records.month }) = period;
     }
-    journal(r, &mut meter);
+    held_records(r, &mut meter);
     meter
 }
 
@@ -62,7 +62,7 @@ pub fn fresh(r: &mut Random) -> Meter {
     meter
 }
 
-fn journal(r: &mut Random, meter: &mut Meter) {
+fn held_records(r: &mut Random, meter: &mut Meter) {
     let (days, months) = (r.upto(DAYS as u64) as usize, r.upto(MONTHS as u64) as usize);
     (meter.records.days.count, meter.records.months.count) = (days, months);
     for k in 0..DAYS {
@@ -75,8 +75,8 @@ fn journal(r: &mut Random, meter: &mut Meter) {
 
 /// Fills the slots; whether a plan is in force on the date.
 fn plans(r: &mut Random, meter: &mut Meter, date: Date) -> bool {
-    let one = records::plan(r, date, records::ANY_SPAN, None);
-    let two = records::plan(r, date, records::ANY_SPAN, Some(one));
+    let one = plan_records::plan(r, date, plan_records::ANY_SPAN, None);
+    let two = plan_records::plan(r, date, plan_records::ANY_SPAN, Some(one));
     let plans = match r.below(6) {
         0 => [None, None],
         1 => [Some(one), None],
@@ -92,11 +92,11 @@ fn plans(r: &mut Random, meter: &mut Meter, date: Date) -> bool {
 
 fn slot(r: &mut Random, plan: Option<Plan>) -> Slot {
     match plan {
-        Some(plan) => Slot { loaded: 1, plan: records::host_plan(r, &plan) },
+        Some(plan) => Slot { loaded: 1, plan: plan_records::host_plan(r, &plan) },
         None => {
             let near = Date::at(r.below(36_000) as i64);
-            let mut plan = records::plan(r, near, records::ANY_SPAN, None).to_host();
-            records::damage_host(r, &mut plan);
+            let mut plan = plan_records::plan(r, near, plan_records::ANY_SPAN, None).to_host();
+            plan_records::damage_host(r, &mut plan);
             Slot { loaded: 0, plan }
         }
     }

@@ -7,7 +7,7 @@ use crate::library;
 use crate::model::{self, Meter, Record};
 use crate::plan::{Plan, MOST, RECORD_BYTES};
 use crate::random::Random;
-use crate::records;
+use crate::plan_records;
 use crate::seen::Seen;
 use std::collections::VecDeque;
 
@@ -151,10 +151,10 @@ pub fn sum(r: &mut Random, seen: &mut Seen) -> Result<(), Difference> {
 }
 
 fn any_record(r: &mut Random, near: Date) -> Vec<u8> {
-    let plan = records::plan(r, near, records::ANY_SPAN, None);
-    let mut bytes = records::record(r, &plan);
+    let plan = plan_records::plan(r, near, plan_records::ANY_SPAN, None);
+    let mut bytes = plan_records::record(r, &plan);
     if r.one_in(3) {
-        records::damage(r, &mut bytes);
+        plan_records::damage(r, &mut bytes);
     }
     bytes
 }
@@ -185,17 +185,17 @@ fn round(reply: library::PlanReply, plan: &Plan, bytes: &[u8]) -> Result<(), Dif
     library::plan_write(&reply.plan, &mut out);
     same("a plan read, written and read again", &library::plan_read(&out), &reply)?;
     let mut wanted = bytes.to_vec();
-    records::unread(plan).into_iter().for_each(|place| wanted[place] = 0);
+    plan_records::unread(plan).into_iter().for_each(|place| wanted[place] = 0);
     same("a record read and written", &hex(&out), &hex(&wanted))
 }
 
 /// Writes a plan into a buffer that lies between guard bytes.
 pub fn write(r: &mut Random, seen: &mut Seen) -> Result<(), Difference> {
     let near = Date::at(r.below(36_000) as i64);
-    let plan = records::plan(r, near, records::ANY_SPAN, None);
-    let mut host = records::host_plan(r, &plan);
+    let plan = plan_records::plan(r, near, plan_records::ANY_SPAN, None);
+    let mut host = plan_records::host_plan(r, &plan);
     if r.one_in(2) {
-        records::damage_host(r, &mut host);
+        plan_records::damage_host(r, &mut host);
     }
     let length = if r.one_in(5) { r.pick(&[0, 1, 65, 67, 132, 322]) } else { RECORD_BYTES };
     let before: Vec<u8> = (0..length + 32).map(|_| r.next() as u8).collect();
@@ -219,8 +219,8 @@ pub fn in_force(r: &mut Random, seen: &mut Seen) -> Result<(), Difference> {
     let mut first = any_record(r, near);
     let mut second = any_record(r, near);
     if let (Ok(plan), true) = (Plan::read(&first), r.one_in(3)) {
-        let next = records::plan(r, near, records::ANY_SPAN, Some(plan));
-        second = records::record(r, &next);
+        let next = plan_records::plan(r, near, plan_records::ANY_SPAN, Some(plan));
+        second = plan_records::record(r, &next);
     }
     if r.one_in(2) {
         std::mem::swap(&mut first, &mut second);
@@ -229,7 +229,7 @@ pub fn in_force(r: &mut Random, seen: &mut Seen) -> Result<(), Difference> {
     for plan in [&first, &second].into_iter().filter_map(|bytes| Plan::read(bytes).ok()) {
         dates.extend(plan.edges().iter().flat_map(|edge| [edge.number(), edge.plus(-1).number()]));
     }
-    let date = if r.one_in(12) { r.pick(&records::NO_DATES) } else { r.pick(&dates) };
+    let date = if r.one_in(12) { r.pick(&plan_records::NO_DATES) } else { r.pick(&dates) };
     let before = (first.clone(), second.clone());
     let answer = model::record_in_force(&first, &second, date);
     let wanted = match answer {

@@ -5,7 +5,7 @@ use crate::library;
 use crate::model::Meter;
 use crate::plan::{Cycle, Plan};
 use crate::random::Random;
-use crate::records;
+use crate::plan_records;
 
 /// How the clock goes on from one call to the next.
 #[derive(Clone, Copy)]
@@ -105,7 +105,7 @@ pub fn bad_stamp(r: &mut Random, meter: &Meter, good: Stamp) -> library::Stamp {
     let mut stamp = host(good);
     let clock = meter.clock.unwrap_or(good);
     match r.below(6) {
-        0 => stamp.date = r.pick(&records::NO_DATES),
+        0 => stamp.date = r.pick(&plan_records::NO_DATES),
         1 => stamp.second = r.pick(&[86_400, 86_401, 65_536 * 2, u32::MAX]),
         2 => stamp.date = r.pick(&[u32::MAX, 120_200_115, 2_020_011, good.date.year * 10_000 + 1332]),
         3 => stamp = host(Stamp { second: clock.second.saturating_sub(1), ..clock }),
