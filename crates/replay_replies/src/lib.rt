@@ -2,7 +2,7 @@
 // buffer. Each function answers how many bytes it put; what stands behind them stays.
 #![tactic(auto)]
 
-ghost use Rattle.std.specs.Prelude.{◌≡◌, ℕ, List, ◌+◌, ◌≤◌, length};
+ghost use Rattle.std.specs.Prelude.{◌≡◌, ℕ, List, ◌≤◌, length};
 ghost use Rattle.text.specs.Written.{Written};
 ghost use Rattle.text_writer.specs.TextWriter.{HasRoom, Appended, line_room};
 ghost use Rattle.replay_replies.specs.Lines.{ok_line, step_text, display_text, record_text, heavy_text, answer_line};

@@ -2,7 +2,7 @@
 // buffer.
 #![tactic(auto)]
 
-ghost use Rattle.std.specs.Prelude.{◌≡◌, ◌+◌, ◌≤◌, length, Err};
+ghost use Rattle.std.specs.Prelude.{◌≤◌, length, Err};
 ghost use Rattle.text.specs.Written.{Written};
 ghost use Rattle.text_writer.specs.TextWriter.{HasRoom, Appended, line_room};
 ghost use Rattle.meter.specs.Machine.{state_in};
