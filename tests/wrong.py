@@ -1,7 +1,7 @@
 #!/usr/bin/env python3
 """Tries the wrong answers under crates/*/wrong: edits in the form of rt's must-fail ones, each of which the prover must refuse.
 
-  tests/wrong.py [--list] [--proved] [CRATE..]    in the repository
+  tests/wrong.py [--list] [--proved[=LOG]] [CRATE..]    in the repository
 
 `rt must-fail` checks the whole crate for each edit. Here edits share a check where it tells them apart. A function is proved by its own
 contract and those of what it calls, whose bodies it does not see; so an edit of a body, or of the contract of a function that nothing else
@@ -13,7 +13,8 @@ edit is of what no function names. The runs of a crate follow one another, each 
 what is as it was. The libraries below are built first, by `rt lib`, or with --proved are those that `rt ci` has just proved.
 
 A refusal shows something only if it stops at a fact. An edit fails if its first error is in specs/ or in a contract, or is a name that
-is out of scope. The edits under must-fail/ are held to the same.
+is out of scope. The edits under must-fail/ are held to the same. Where LOG has what `rt ci` printed, each of these counts by its line
+there, if the line places the first error at a fact of what the edit may break. If not, or if it has a line `for:`, it is tried here too.
 
 An edit stands for the function that it changes; a line `for: name name` names others whose contract it makes false, each of which the
 prover must leave unproved. Every public contract of a library has a wrong answer, those of the crates in TWICE have two; programs
@@ -41,6 +42,7 @@ AGAIN = []  # the edits of shared runs that were tried again by themselves
 NAMELESS = re.compile('is not in scope|that can be named from here|has no field|has no `|unknown-name|is no name|cannot continue|expected the end')
 ADMITTED = re.compile('was not admitted|because it was not|was rejected, was not checked|exports no `')
 # a place, and what stands there
+SAID = re.compile(r'rt: must-fail (\w+)/(\S+)\.edit: refused, as it must be: (.*)')  # a line of `rt ci`
 PLACED = re.compile(r'(note: )?(?:\./)?((?:src|specs|proofs)/[^\s:]+):(\d+):\d+:(.*)')
 
 
@@ -78,10 +80,15 @@ def built(crates, is_proved):
     return None
 
 
+def left(crate):
+    """The edits of a crate that are to be tried here."""
+    return [edit for edit in crate.edits['must-fail'] + crate.edits['wrong'] if edit not in crate.settled]
+
+
 def runs_of(crate):
-    """The edits of a crate, gathered into runs."""
+    """These edits, gathered into runs."""
     alone, shared = [], []
-    for edit in sorted(crate.edits['must-fail'] + crate.edits['wrong'], key=lambda edit: not edit.function):
+    for edit in sorted(left(crate), key=lambda edit: not edit.function):
         if edit.whole or not (edit.function or edit.blocks) or edited([edit]) is None:
             alone.append([edit])
             continue
@@ -97,19 +104,24 @@ def runs_of(crate):
 def least(crate):
     """The fewest runs that could do: the most edits of one function or definition, and those that share no run."""
     counts = {}
-    for edit in crate.edits['must-fail'] + crate.edits['wrong']:
+    for edit in left(crate):
         for it in [edit.function] if edit.function else edit.blocks:
             counts[it] = counts.get(it, 0) + 1
-    return max(counts.values(), default=0) + sum(not (edit.function or edit.blocks) for edits in crate.edits.values() for edit in edits)
+    return max(counts.values(), default=0) + sum(not (edit.function or edit.blocks) for edit in left(crate))
+
+
+def error_in(line):
+    """The place and the text of the error that a line tells, or None."""
+    found = PLACED.match(line)
+    tells = found and (found[1] or found[4].startswith(' error')) and not ADMITTED.search(found[4])
+    return (found[2], int(found[3]), found[4]) if tells else None
 
 
 def errors_in(log):
     """The places and texts of the errors in a log, and behind them those of the goals that are left."""
     errors, goals = [], []
     for line in log.split('\n'):
-        found = PLACED.match(line)
-        if found and (found[1] or found[4].startswith(' error')) and not ADMITTED.search(found[4]):
-            errors.append((found[2], int(found[3]), found[4]))
+        errors += [error_in(line)] if error_in(line) else []
         goal = re.match(r'note: `([^`]+)` of (proofs/\S+?) must prove: (.*)', line)
         if goal:
             goals.append((goal[2], 0, goal[3]))
@@ -125,6 +137,23 @@ def shows_nothing(place, said):
     if place.startswith('src/') and ' error' in said[:7]:
         return 'its first error is in a contract'
     return None
+
+
+def settled_by(edit, said):
+    """Where `rt ci`, which printed this of an edit under must-fail/, found a fact of what the edit may break that does not hold, or None."""
+    error, one = error_in(said), edit.function
+    if edit.whole or edit.others or not error or shows_nothing(error[0], error[2]):
+        return None
+    if one and not error[0].startswith('proofs/') and any(place.startswith(one.folder + '/') for place in edit.crate.texts):
+        return None  # rt passes over a name that is lost in a proof file, and tells that the proof is not there
+    return '%s:%d' % error[:2] if edit.crate.rests.at(*error[:2]) in edit.crate.rests.breaks(edit) else None
+
+
+def settled(crate, log):
+    """The edits under must-fail/ of a crate that need no try here, each with the place of its first error."""
+    said = {found[2]: found[3] for found in map(SAID.match, log) if found and found[1] == crate.name}
+    places = {edit: settled_by(edit, said.get(edit.label, '')) for edit in crate.edits['must-fail']}
+    return {edit: place for edit, place in places.items() if place}
 
 
 def own_errors(edit, run, errors):
@@ -212,7 +241,7 @@ def all_of(crate, is_proved):
     os.makedirs(base)
     if os.path.isdir(earlier):  # what `rt` proved of it: the prover takes what is as it was, by its checksum
         shutil.copytree(earlier, os.path.join(base, 'kept'), copy_function=kept_by_link)
-    refused, runs = 0, runs_of(crate)
+    refused, runs = len(crate.settled), runs_of(crate)
     if not is_proved and not stands(crate, base):
         print('wrong %s: NOT TRIED: the crate is not proved as it stands (%s)' % (crate.name, os.path.relpath(os.path.join(base, 'unedited.log'), ROOT)), flush=True)
         return 0, 0
@@ -226,9 +255,12 @@ def all_of(crate, is_proved):
 
 def main(given):
     chosen = [word for word in given if not word.startswith('--')] or list(LISTED)
+    proved = next((word for word in given if word.startswith('--proved')), '')
+    log = open(proved.partition('=')[2], encoding='utf-8', errors='replace').read().split('\n') if '=' in proved else []
     crates = [Crate(name) for name in chosen]
     for crate in crates:
         crate.rests = Rests(crate)
+        crate.settled = settled(crate, log)
     amiss = [line for crate in crates for line in lacking(crate)]
     print('\n'.join(amiss) + '\n' if amiss else '', end='', flush=True)
     if '--list' in given:
@@ -237,22 +269,25 @@ def main(given):
         return 1 if amiss else 0
     shutil.rmtree(ALL, ignore_errors=True)
     crates = [crate for crate in crates if any(crate.edits.values())]
-    unproved = built(crates, '--proved' in given)
+    unproved = built(crates, bool(proved))
     if unproved:
         print('wrong: NOT TRIED: the library %s is not proved as it stands' % unproved)
         return 1
     os.makedirs(ALL, exist_ok=True)
+    for edit, place in (it for crate in crates for it in crate.settled.items()):
+        print('must-fail %s/%s: refused, as it must be (first at %s; tried by rt ci)' % (edit.crate.name, edit.label, place), flush=True)
     wanted = sum(len(edits) for crate in crates for edits in crate.edits.values())
     with concurrent.futures.ThreadPoolExecutor(JOBS) as pool:
         first = sorted(crates, key=lambda crate: -sum(len(text) for text in crate.texts.values()) * len(runs_of(crate)))  # the longest first
-        done = list(pool.map(lambda crate: all_of(crate, '--proved' in given), first))
+        done = list(pool.map(lambda crate: all_of(crate, bool(proved)), first))
     refused, made = sum(one for one, _ in done), sum(runs for _, runs in done)
     failed = wanted - refused + len(amiss)
     with open(os.path.join(ALL, 'counts'), 'w', encoding='utf-8') as out:
         out.write('%d %d\n' % (refused, failed))
     spent = os.times()
-    print('%d of %d wrong answers refused, in %d runs (%d of them a second try) of %d processor seconds; %d contracts lack some'
-          % (refused, wanted, made + len(AGAIN), len(AGAIN), spent.children_user + spent.children_system, len(amiss)))
+    print('%d of %d wrong answers refused, %d of them as rt ci tried them, the others in %d runs (%d of them a second try) of %d processor '
+          'seconds; %d contracts lack some' % (refused, wanted, sum(len(crate.settled) for crate in crates), made + len(AGAIN), len(AGAIN),
+                                               spent.children_user + spent.children_system, len(amiss)))
     return 1 if failed or not wanted else 0
 
 
