@@ -198,7 +198,7 @@ def edited(edits):
 
 
 def lacking(crate):
-    """A line for each public contract with too few wrong answers, and one for a crate that has none."""
+    """A line for each public contract with too few wrong answers, and one for a crate that has none, or none that `rt ci` tries."""
     edits = crate.edits['must-fail'] + crate.edits['wrong']
     public = [function for function in crate.functions if function.public and function.promises]
     print('wrong %s: %d edits (%d under must-fail, %d under wrong), %d public contracts'
@@ -206,6 +206,8 @@ def lacking(crate):
     if not edits:
         return [] if crate.name in PROGRAMS else ['wrong %s: LOST: it has no wrong answer' % crate.name]
     wanted, out = 2 if crate.name in TWICE else 1, []
+    if not crate.edits['must-fail']:
+        out.append('wrong %s: TOO FEW: none of its wrong answers is under must-fail/' % crate.name)
     for function in public:
         have = sum(function in edit.stands for edit in edits)
         if have < wanted:
