@@ -150,7 +150,7 @@ class Edit:
 
     def __init__(self, crate, kind, file):
         self.crate, self.kind, self.label = crate, kind, file[:-len('.edit')]
-        self.pairs, self.whole, self.stands = [], None, []
+        self.pairs, self.whole, self.stands, self.goals = [], None, [], []
         place = old = None
         others = []
         for line in read(crate.name, kind + '/' + file).split('\n'):
@@ -162,6 +162,8 @@ class Edit:
                 self.pairs.append((place, old, line[len('new:'):].removeprefix(' ')))
             elif line.startswith('for: '):
                 others += line[len('for: '):].split()
+            elif line.startswith('goals: '):
+                self.goals += line[len('goals: '):].split()
         touched = [self.touched(*pair) for pair in self.pairs if pair[1] in crate.texts.get(pair[0], '') or pair is self.pairs[0]]
         self.changed = {function for function, _ in touched if function}
         self.stands = list(self.changed)

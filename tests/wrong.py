@@ -17,7 +17,8 @@ is out of scope. The edits under must-fail/ are held to the same. Where LOG has 
 there, if the line places the first error at a fact of what the edit may break. If not, or if it has a line `for:`, it is tried here too.
 
 An edit stands for the function that it changes; a line `for: name name` names others whose contract it makes false, each of which the
-prover must leave unproved. Every public contract of a library has a wrong answer, those of the crates in TWICE have two; programs
+prover must leave unproved. One of several exits has a line `goals: name name`, the prover's names of them, each of which it must leave too:
+so what is wrong of each exit is seen in one run. Every public contract of a library has a wrong answer, those of the crates in TWICE have two; programs
 without edits are named in PROGRAMS (tests/edits.py). --list counts them and the runs that they take, and tries nothing. A crate needs as
 many runs as there are edits of one of its functions or definitions, beside those that are tried by themselves.
 
@@ -41,6 +42,7 @@ ALL = os.path.join(ROOT, 'target', 'wrong')
 AGAIN = []  # the edits of shared runs that were tried again by themselves
 NAMELESS = re.compile('is not in scope|that can be named from here|has no field|has no `|unknown-name|is no name|cannot continue|expected the end')
 ADMITTED = re.compile('was not admitted|because it was not|was rejected, was not checked|exports no `')
+LEFT = re.compile(r'^note: `([^`]+)` of (proofs/\S+?) must prove: ', re.M)
 # a place, and what stands there
 SAID = re.compile(r'rt: must-fail (\w+)/(\S+)\.edit: refused, as it must be: (.*)')  # a line of `rt ci`
 PLACED = re.compile(r'(note: )?(?:\./)?((?:src|specs|proofs)/[^\s:]+):(\d+):\d+:(.*)')
@@ -142,7 +144,7 @@ def shows_nothing(place, said):
 def settled_by(edit, said):
     """Where `rt ci`, which printed this of an edit under must-fail/, found a fact of what the edit may break that does not hold, or None."""
     error, one = error_in(said), edit.function
-    if edit.whole or edit.others or not error or shows_nothing(error[0], error[2]):
+    if edit.whole or edit.others or edit.goals or not error or shows_nothing(error[0], error[2]):
         return None
     if one and not error[0].startswith('proofs/') and any(place.startswith(one.folder + '/') for place in edit.crate.texts):
         return None  # rt passes over a name that is lost in a proof file, and tells that the proof is not there
@@ -179,6 +181,9 @@ def fault_of(edit, log, run):
         return 'SHOWS NOTHING: ' + shows_nothing(place, said), '%s:%d' % (place, row)
     proved = set(re.findall(r'^fn %s::(\S+): proved' % edit.crate.name, log, re.M))
     stray = [function.name for function in edit.stands if function.name in proved]
+    if edit.goals:  # of a function without a proof file, where the prover says which of them are left
+        goals = {goal for goal, file in LEFT.findall(log) if file.startswith(edit.function.folder + '/')}
+        stray += [goal for goal in edit.goals if goal not in goals]
     return ('SHOWS NOTHING of %s, which is still proved' % ' '.join(stray) if stray else None), '%s:%d' % (place, row)
 
 
