@@ -174,6 +174,8 @@ class Edit:
             function = crate.named(name)
             self.whole = self.whole or ('BAD EDIT: it names %s, which is no function of the crate' % name if not function else None)
             self.others += [function] if function else []
+        if self.goals and not self.function:
+            self.whole = self.whole or 'BAD EDIT: it names goals, and is not of one body'
         self.stands += self.others
 
     def touched(self, place, old, new):

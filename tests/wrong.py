@@ -90,7 +90,7 @@ def left(crate):
 def runs_of(crate):
     """These edits, gathered into runs."""
     alone, shared = [], []
-    for edit in sorted(left(crate), key=lambda edit: not edit.function):
+    for edit in sorted(left(crate), key=lambda edit: (not edit.function, len(crate.rests.breaks(edit)))):
         if edit.whole or not (edit.function or edit.blocks) or edited([edit]) is None:
             alone.append([edit])
             continue
