@@ -21,7 +21,7 @@ class Block:
     def __init__(self, place, row, line, around):
         self.place, self.first, self.last, self.text, self.around = place, row, row, line, around
         self.name = HEADER.match(line)[1]
-        marks = set(line.split(' ' + self.name)[0].split())
+        marks = set(line[:HEADER.match(line).start(1)].split())
         self.is_shut, self.is_law = 'unfoldable' in marks, not marks & {'unfoldable', 'abbrev', 'record', 'data', 'ruleset'}
 
     def names(self):
@@ -92,9 +92,9 @@ class Rests:
         return self.scopes[place]
 
     def words_at(self, place, rows):
-        """The names in some rows of a file of src/."""
+        """The names in some rows of a file of src/, comments apart."""
         lines = imports_blank(self.crate.texts[place]).split('\n') if rows else ()
-        return {word for row in rows for word in WORD.findall(lines[row - 1])}
+        return {word for row in rows for word in WORD.findall(lines[row - 1].partition('//')[0])}
 
     def promise(self, function):
         """The names in a function's contract, and in the clauses of the trait or the impl that it stands in."""

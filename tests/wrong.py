@@ -42,7 +42,7 @@ ALL = os.path.join(ROOT, 'target', 'wrong')
 AGAIN = []  # the edits of shared runs that were tried again by themselves
 NAMELESS = re.compile('is not in scope|that can be named from here|has no field|has no `|unknown-name|is no name|cannot continue|expected the end')
 ADMITTED = re.compile('was not admitted|because it was not|was rejected, was not checked|exports no `')
-LEFT = re.compile(r'^note: `([^`]+)` of (proofs/\S+?) must prove: ', re.M)
+LEFT = re.compile(r'^note: `([^`]+)` of (proofs/\S+?) must prove: (.*)', re.M)  # a goal that is left
 # a place, and what stands there
 SAID = re.compile(r'rt: must-fail (\w+)/(\S+)\.edit: refused, as it must be: (.*)')  # a line of `rt ci`
 PLACED = re.compile(r'(note: )?(?:\./)?((?:src|specs|proofs)/[^\s:]+):(\d+):\d+:(.*)')
@@ -121,13 +121,7 @@ def error_in(line):
 
 def errors_in(log):
     """The places and texts of the errors in a log, and behind them those of the goals that are left."""
-    errors, goals = [], []
-    for line in log.split('\n'):
-        errors += [error_in(line)] if error_in(line) else []
-        goal = re.match(r'note: `([^`]+)` of (proofs/\S+?) must prove: (.*)', line)
-        if goal:
-            goals.append((goal[2], 0, goal[3]))
-    return errors + goals
+    return [*filter(None, map(error_in, log.split('\n'))), *((file, 0, said) for _, file, said in LEFT.findall(log))]
 
 
 def shows_nothing(place, said):
@@ -182,7 +176,7 @@ def fault_of(edit, log, run):
     proved = set(re.findall(r'^fn %s::(\S+): proved' % edit.crate.name, log, re.M))
     stray = [function.name for function in edit.stands if function.name in proved]
     if edit.goals:  # of a function without a proof file, where the prover says which of them are left
-        goals = {goal for goal, file in LEFT.findall(log) if file.startswith(edit.function.folder + '/')}
+        goals = {goal for goal, file, _ in LEFT.findall(log) if file.startswith(edit.function.folder + '/')}
         stray += [goal for goal in edit.goals if goal not in goals]
     return ('SHOWS NOTHING of %s, which is still proved' % ' '.join(stray) if stray else None), '%s:%d' % (place, row)
 
