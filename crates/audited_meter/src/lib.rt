@@ -12,7 +12,7 @@ use meter::{Call, Meter};
 use refusal::Refusal;
 use running_ledger::RunningLedger;
 
-#[derive(Clone, Copy, PartialEq, Eq)]
+#[derive(Clone, Copy)]
 pub struct AuditedMeter {
     pub meter: Meter,
     pub running: RunningLedger,

@@ -81,3 +81,9 @@ module _ (m : Meter) (c : Call) where
       go : (a : Result ⊤ Refusal) → MatchResult a (λ _. own (Err n)) (λ k. n ≡ k) → next a (own_refusal real (state_in m) c) ≡ Err n
       go (Ok t) e = h n e
       go (Err k) e = cc
+
+  -- where its own test tells nothing but its refusals
+  pub answered_by : (own : Result ⊤ Refusal → Type 0) (effect : RegistersAndCodes → ⊤ → Accepted → Type 0) (r : Result Accepted Refusal) {words : List ℕ} →
+      Ran m.machine.registers m.held (stamp_of c) own effect r words → ((a : Result ⊤ Refusal) → own a → own_refusal real (state_in m) c ≡ a) →
+      ((t : RegistersAndCodes) (o : Accepted) → effect t tt o → o ≡ effect_by t c) → Answers m c r words
+  answered_by own effect r h i j = answered own effect r h (λ n e. i (Err n) e) (λ x e. i (Ok x) e) (λ x t o e f. j t o f)

@@ -41,8 +41,13 @@ impl Check<'_> {
     pub fn holds(self) -> bool {
         let before = self.start.meter();
         let (after, refusal) = run(before, self.request);
-        refusal == self.refusal && (refusal.is_none() || after == before)
+        refusal == self.refusal && (refusal.is_none() || same(after, before))
     }
+}
+
+// Whether two meters are alike in every field, records that are not held included.
+fn same(one: Meter, other: Meter) -> bool {
+    one.machine.registers == other.machine.registers && one.held == other.held
 }
 
 // The meter that a call left, and the refusal, if there was one.

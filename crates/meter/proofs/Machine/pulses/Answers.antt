@@ -28,7 +28,7 @@ use Rattle.meter.specs.Machine.{meter_of, state_in}
 use Rattle.meter.specs.Accepted.{accepted_of}
 use Rattle.meter.proofs.AnswersByRefusal.{not-admitted, denied, accepts}
 use Rattle.meter.proofs.Machine.pulses.Goals as goal
-use Rattle.meter.proofs.Machine.pulses.Goals.{then-self-date, else-self-date}
+use Rattle.meter.proofs.Machine.pulses.Goals.{After-pulsed-arg-2-1, then-self-date, else-self-date}
 
 -- whether the day turned or not, registers, words and codes are those of the turn but for the clock, and the slot is that in force on the
 -- stamp's date
@@ -84,6 +84,17 @@ turn-t-requires c =
     let a = admitted (state_in (meter_of c.args.self c.args.words.now)) c.args.p.stamp _ (sym (sym c.in-Ok.is ∙ c.admit-admitted.ensures)) in
     record { bounds = a.bounds; its_date = a.date }
 
+-- the registers to which the pulses come
+met : (c : After-pulsed-arg-2-1) → Met (meter_of c.args.self c.args.words.now) c.args.p.stamp c.if-self-date.s c.if-self-date.words c.if-self-date.codes c.if-self-date.f
+met c =
+    let u : Meter = meter_of c.args.self c.args.words.now in
+    let s : Stamp = c.args.p.stamp in
+    let a = admitted (state_in u) s _ (sym (sym c.in-Ok.is ∙ c.admit-admitted.ensures)) in
+    elim c.if-self-date.branch [
+      | then-self-date w ↦ met-turned u s _ w.turn-t.ensures (w.in_force_on-f.ensures ∙ ap (in_force_on real c.args.self.registers.slots) a.date) w.s-is w.words-is w.codes-is w.f-is
+      | else-self-date w ↦ met-same u s a.passed (omega (arith, w.if-self-date.false, a.date)) c.none-codes.ensures c.in_force_on-was.ensures w.s-is w.words-is w.codes-is w.f-is
+    ]
+
 pub pulsed-requires : goal.pulsed-requires
 unfolding registers_of state_with
 pulsed-requires c =
@@ -91,10 +102,7 @@ pulsed-requires c =
     let m : State = state_in u in
     let s : Stamp = c.args.p.stamp in
     let a = admitted m s _ (sym (sym c.in-Ok.is ∙ c.admit-admitted.ensures)) in
-    let e : Met u s c.if-self-date.s c.if-self-date.words c.if-self-date.codes c.if-self-date.f = elim c.if-self-date.branch [
-      | then-self-date w ↦ met-turned u s _ w.turn-t.ensures (w.in_force_on-f.ensures ∙ ap (in_force_on real c.args.self.registers.slots) a.date) w.s-is w.words-is w.codes-is w.f-is
-      | else-self-date w ↦ met-same u s a.passed (omega (arith, w.if-self-date.false, a.date)) c.none-codes.ensures c.in_force_on-was.ensures w.s-is w.words-is w.codes-is w.f-is
-    ] in
+    let e = met c in
     record {
       good = rw e.registers (alone-good _ (turned-good m s a.passed));
       in_force = e.in_force ∙ sym (ap (λ (x : State). in_force_on real x.slots s.date) e.registers);
@@ -109,10 +117,7 @@ returns c =
     let m : State = state_in u in
     let s : Stamp = c.args.p.stamp in
     let a = admitted m s _ (sym (sym c.in-Ok.is ∙ c.admit-admitted.ensures)) in
-    let e : Met u s c.if-self-date.s c.if-self-date.words c.if-self-date.codes c.if-self-date.f = elim c.if-self-date.branch [
-      | then-self-date w ↦ met-turned u s _ w.turn-t.ensures (w.in_force_on-f.ensures ∙ ap (in_force_on real c.args.self.registers.slots) a.date) w.s-is w.words-is w.codes-is w.f-is
-      | else-self-date w ↦ met-same u s a.passed (omega (arith, w.if-self-date.false, a.date)) c.none-codes.ensures c.in_force_on-was.ensures w.s-is w.words-is w.codes-is w.f-is
-    ] in
+    let e = met (goal.at.returns c).After-pulsed-arg-2-1 in
     let t : RegistersAndCodes = record { registers = registers_of (turn real m s); codes = note_all no_codes (turn_codes real m s) } in
     accepts u (pulses c.args.p) a.passed {t = t} (sym c.in_ok-pulse_refusal.ensures) (refl, e.words, refl)
     (c.from.ensures ∙ rw (c.pulsed.ensures.registers, c.pulsed.ensures.codes, e.codes)

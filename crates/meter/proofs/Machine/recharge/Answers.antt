@@ -10,7 +10,7 @@ use Rattle.state.proofs.Headroom.{state, small-balance, low-serial, small-amount
 use Rattle.meter.specs.Call.{recharge}
 use Rattle.meter.specs.Refusals.{own_refusal}
 use Rattle.meter.specs.Machine.{meter_of, state_in}
-use Rattle.meter.proofs.AnswersByRefusal.{answered}
+use Rattle.meter.proofs.AnswersByRefusal.{answered_by}
 use Rattle.meter.proofs.Machine.recharge.Goals as goal
 
 pub run-requires-clause-checks : goal.run-requires-clause-checks
@@ -32,4 +32,4 @@ run-requires-clause-acts c x t w b =
 
 pub returns : goal.returns
 unfolding own_refusal state_with
-returns c = answered (meter_of c.args.self c.args.words.now) (recharge c.args.p) _ _ _ c.run.ensures (λ n e. search rules) (λ x e. search rules) (λ x t o e i. search rules)
+returns c = answered_by (meter_of c.args.self c.args.words.now) (recharge c.args.p) _ _ _ c.run.ensures (λ a e. search rules) (λ t o i. search rules)
