@@ -41,7 +41,7 @@ extern "C" {
 #define HARPDAPPLE_STEPS 6         /* most steps of a plan */
 #define HARPDAPPLE_DAYS 62         /* most day records held */
 #define HARPDAPPLE_MONTHS 120      /* most month records held */
-#define HARPDAPPLE_CODES 8         /* room for the codes of one call; no call gives more than 5 */
+#define HARPDAPPLE_CODES 8         /* places for the codes of one call; none gives more than 5 */
 
 /* Refusal numbers, in the order in which a call looks for them where it can give several. */
 enum harpdapple_refusal {

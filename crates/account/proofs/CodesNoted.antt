@@ -16,7 +16,7 @@ unfolding note_all
 note-append k [] b = refl
 note-append k (c ∷ a) b = note-append (noted k c) a b
 
--- where there is room, a code goes behind those that are there
+-- where the list is not full, a code goes behind those that are there
 abbrev after : Codes → ℕ → Codes
 after k c = record { count = k.count + 1; list = set k.list k.count c }
 
@@ -27,7 +27,7 @@ noted-is k c h = rw (lt-ltb k.count 8 h)
 told-after : (k : Codes) (c : ℕ) → k.count < length k.list → told (after k c) ≡ told k ++ (c ∷ [])
 told-after k c h = rw (add-one k.count) (take-suc-set k.list k.count c h)
 
--- a list for which there is room stands behind the codes that are there
+-- a list that fits stands behind the codes that are there
 pub told_more : (k : Codes) (cs : List ℕ) → length k.list ≡ 8 → k.count + length cs ≤ 8 → told (note_all k cs) ≡ told k ++ cs
 unfolding note_all
 told_more k [] e h = sym (append-nil (told k))

@@ -15,7 +15,7 @@ use arrayvec::ArrayVec;
 use plan::Plan;
 use refusal::Refusal;
 
-// The most bytes of a line, and so the room that the functions below ask for. A buffer of the type
+// The most bytes of a line, and so the length that the functions below ask for. A buffer of the type
 // `[u8; MOST_LINE]` would ask for that length exactly, which is more.
 pub const MOST_LINE: usize = 378;
 

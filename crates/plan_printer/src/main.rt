@@ -60,7 +60,7 @@ fn print_all(
     Ok(())
 }
 
-// Room for 992 records, and for as many lines.
+// As long as 992 records, and as many lines.
 #[tactic(auto, unfolding(plan_line::specs::Records::records_in))]
 fn main(rt: HostRuntime) -> io::Result<()> {
     let mut records = [0u8; 65_472];

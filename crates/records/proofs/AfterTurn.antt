@@ -21,7 +21,7 @@ pub none-long : length no_words ≡ word_count
 unfolding no_words
 none-long = refl
 
--- a day or a month is pushed, and the others stay; months stay only where no more are counted than the words have room for
+-- a day or a month is pushed, and the others stay; months stay only where no more are counted than the words hold
 module _ (r : Record) (h : List ℕ) (long : length h ≡ word_count) where
   days-pushed : Fits r → held_from day_place (pushed day_place day_limit r h) ≡ in_front day_limit r (held_from day_place h)
   days-pushed f = pushed-rows day_place day_limit r h (omega arith) (omega arith) f

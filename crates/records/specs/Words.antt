@@ -57,7 +57,7 @@ held_from from h = rows h (from + 1) (get_or h from 0)
 abbrev pub held_of : List ℕ → Held
 held_of h = record { days = held_from day_place h; months = held_from month_place h }
 
--- those on a shelf, as the code sees it too, and that there are no more than it has room for
+-- those on a shelf, as the code sees it too, and that there are no more than fit on it
 abbrev pub held_on : Shelf → List ℕ → List Record
 held_on s h = records_of s (held_of h)
 

@@ -77,7 +77,7 @@ fn record_at(h: &Words, i: usize) -> Record
     record_from(h[i], h[i + 1], h[i + 2])
 }
 
-// One shelf of the words. A host lends them with any count in it, so `row` asks that the shelf has room.
+// One shelf of the words. A host lends them with any count in it, so `row` asks that they fit on the shelf.
 #[derive(Clone, Copy)]
 struct Rows<'a> {
     words: &'a Words,
@@ -100,7 +100,7 @@ impl<'a> Rows<'a> {
         self.words[self.shelf.place()] as usize
     }
 
-    // Record k, where it is held, and they are no more than the shelf has room for.
+    // Record k, where it is held, and they are no more than fit on the shelf.
     #[tactic(auto, using(crate::proofs::Rows::shelf_at))]
     fn row(self, k: usize) -> Record
         requires held { k < length (rows_of self) }
@@ -110,7 +110,7 @@ impl<'a> Rows<'a> {
         record_at(self.words, self.shelf.place() + 3 * k + 1)
     }
 
-    // Whether the records keep the bounds, and are no more than the shelf has room for. A `while` and no `all`: compiled, it tests the
+    // Whether the records keep the bounds, and are no more than fit on the shelf. A `while` and no `all`: compiled, it tests the
     // count where it jumps back, and `all` in front of each record.
     fn is_good(self, limits: Limits) -> bool
         ensures { result ≡ (leb (length (rows_of self.entry)) (shelf_limit self.entry.shelf) && records_good limits.top.0 limits.total.0 (rows_of self.entry)) }

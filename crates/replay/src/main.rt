@@ -3,14 +3,14 @@
 #![tactic(auto)]
 
 ghost use Rattle.std.specs.Prelude.{◌≡◌, ◌≤◌, length, OnOk, IfOk};
-ghost use Rattle.replay.specs.Room.{capacity, HasRoom};
+ghost use Rattle.replay.specs.Headroom.{capacity, HasHeadroom};
 
 use audited_meter::AuditedMeter;
 use replay_lexer::lines;
 use replay_parser::Fault;
 use std::io;
 use std::io::{Read, Write};
-use text_writer::LINE_ROOM;
+use text_writer::MOST_LINE;
 
 // The bytes of input, and of answers, that are held at once.
 const CAPACITY: usize = 65_536;
@@ -33,11 +33,11 @@ impl Answers {
         Ok(())
     }
 
-    // Sees to room for one more answer.
-    fn make_room(&mut self, sink: &mut impl Write) -> io::Result<()>
-        ensures { OnOk result (HasRoom self.new.used) }
+    // Sees to it that one more answer fits.
+    fn make_headroom(&mut self, sink: &mut impl Write) -> io::Result<()>
+        ensures { OnOk result (HasHeadroom self.new.used) }
     {
-        if self.bytes.len() - self.used < LINE_ROOM {
+        if self.bytes.len() - self.used < MOST_LINE {
             self.flush(sink)?;
         }
         Ok(())
@@ -73,7 +73,7 @@ impl Replayer {
     // slice, whose type has no most length, so three functions ask that it is within the capacity.
     fn replay_line(&mut self, line: &[u8])
         requires line_len_bound { length line.now ≤ capacity }
-        requires scratch { HasRoom self.old.answers.used }
+        requires scratch { HasHeadroom self.old.answers.used }
     {
         self.lines = self.lines.saturating_add(1);
         if self.skipping {
@@ -102,7 +102,7 @@ impl Replayer {
         let mut from = 0;
         let mut end = lines::line_end(input, from);
         while end < input.len() {
-            self.answers.make_room(sink)?;
+            self.answers.make_headroom(sink)?;
             self.replay_line(&input[from..end]);
             from = end + 1;
             end = lines::line_end(input, from);
@@ -113,7 +113,7 @@ impl Replayer {
     // What is left of the input is held for the next read, but for a line that is too long: it is
     // answered once, and passed over up to its end.
     fn keep(&mut self, left: usize) -> usize
-        requires { HasRoom self.old.answers.used }
+        requires { HasHeadroom self.old.answers.used }
         ensures { result ≤ left }
     {
         if self.skipping {
@@ -143,7 +143,7 @@ impl Replayer {
     {
         let from = self.replay_lines(sink, &input[..have])?;
         lines::shift(input, from, have);
-        self.answers.make_room(sink)?;
+        self.answers.make_headroom(sink)?;
         let held = self.keep(have - from);
         self.answers.flush(sink)?;
         Ok(held)
@@ -169,7 +169,7 @@ impl Replayer {
         requires { length rest.now ≤ capacity }
     {
         if !rest.is_empty() {
-            self.answers.make_room(sink)?;
+            self.answers.make_headroom(sink)?;
             self.replay_line(rest);
         }
         self.answers.flush(sink)?;

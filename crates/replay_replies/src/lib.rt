@@ -4,7 +4,7 @@
 
 ghost use Rattle.std.specs.Prelude.{◌≡◌, ℕ, List, ◌≤◌, length};
 ghost use Rattle.text.specs.Written.{Written};
-ghost use Rattle.text_writer.specs.TextWriter.{HasRoom, Appended, line_room};
+ghost use Rattle.text_writer.specs.TextWriter.{HasHeadroom, Appended, most_line};
 ghost use Rattle.replay_replies.specs.Lines.{ok_line, step_text, display_text, record_text, heavy_text, answer_line};
 ghost use Rattle.replay_replies.specs.Errors.{fault_text, error_line};
 ghost use Rattle.replay_replies.specs.Closing.{agrees, closing_line};
@@ -22,8 +22,8 @@ pub trait Line: Copy {
     ghost text: { Self → List ℕ };
 
     fn put(self, writer: &mut TextWriter<'_>)
-        requires { HasRoom line_room writer.old }
-        ensures { Appended (text self) line_room writer.old writer.new };
+        requires { HasHeadroom most_line writer.old }
+        ensures { Appended (text self) most_line writer.old writer.new };
 }
 
 // `ok` and the codes.
@@ -58,7 +58,7 @@ impl Line for Shown {
 
 // A record's numbers.
 fn put_record(r: Record, writer: &mut TextWriter<'_>)
-    requires { HasRoom 112 writer.old }
+    requires { HasHeadroom 112 writer.old }
     ensures { Appended (record_text r) 112 writer.old writer.new }
 {
     writer.number(Value::Whole(u64::from(r.date)), b' ');
@@ -84,11 +84,11 @@ impl Line for PlacedRecord {
     }
 }
 
-// The line of an answer: what was answered, or the number of the refusal. For the room that it and the
-// two below ask, see `text_writer::LINE_ROOM`.
+// The line of an answer: what was answered, or the number of the refusal. For the length that it and the
+// two below ask, see `text_writer::MOST_LINE`.
 pub fn answer_line<T: Line>(answer: Result<T, Refusal>, out: &mut [u8]) -> usize
-    requires { line_room ≤ length out.old }
-    ensures { Written (answer_line T.text answer) line_room out.old result out.new }
+    requires { most_line ≤ length out.old }
+    ensures { Written (answer_line T.text answer) most_line out.old result out.new }
 {
     let mut writer = TextWriter::new(out);
     match answer {
@@ -120,8 +120,8 @@ fn fault_words(fault: Fault) -> &'static [u8]
 
 // The line of a journal line that is no call and no query, with its number.
 pub fn error_line(line: u64, fault: Fault, out: &mut [u8]) -> usize
-    requires { line_room ≤ length out.old }
-    ensures { Written (error_line line fault) line_room out.old result out.new }
+    requires { most_line ≤ length out.old }
+    ensures { Written (error_line line fault) most_line out.old result out.new }
 {
     let mut writer = TextWriter::new(out);
     writer.item(b"error ", Value::Whole(line));
@@ -140,8 +140,8 @@ fn agree(recharged: Charge, balance: Millionths, ledger: Charge) -> bool
 
 // The closing line.
 pub fn closing_line(recharged: Charge, balance: Millionths, ledger: Charge, out: &mut [u8]) -> usize
-    requires { line_room ≤ length out.old }
-    ensures { Written (closing_line recharged balance ledger) line_room out.old result out.new }
+    requires { most_line ≤ length out.old }
+    ensures { Written (closing_line recharged balance ledger) most_line out.old result out.new }
 {
     let mut writer = TextWriter::new(out);
     writer.item(b"recharged ", Value::Whole(recharged.0));

@@ -4,7 +4,7 @@
 
 ghost use Rattle.std.specs.Prelude.{◌≤◌, length, Err};
 ghost use Rattle.text.specs.Written.{Written};
-ghost use Rattle.text_writer.specs.TextWriter.{HasRoom, Appended, line_room};
+ghost use Rattle.text_writer.specs.TextWriter.{HasHeadroom, Appended, most_line};
 ghost use Rattle.meter.specs.Machine.{state_in};
 ghost use Rattle.replay_status.specs.Status.{balance_status, usage_status, step_status, valve_status, day_status, status_lines};
 
@@ -18,7 +18,7 @@ use units::{Charge, Hundredths, Millionths, Signed};
 
 // The balance.
 fn put_balance(b: Millionths, writer: &mut TextWriter<'_>)
-    requires { HasRoom 42 writer.old }
+    requires { HasHeadroom 42 writer.old }
     ensures { Appended (balance_status b.0) 42 writer.old writer.new }
 {
     writer.word(b"balance ");
@@ -29,7 +29,7 @@ fn put_balance(b: Millionths, writer: &mut TextWriter<'_>)
 
 // The usage.
 fn put_usage(v: Hundredths, writer: &mut TextWriter<'_>)
-    requires { HasRoom 51 writer.old }
+    requires { HasHeadroom 51 writer.old }
     ensures { Appended (usage_status v.0) 51 writer.old writer.new }
 {
     writer.item(b"usage ", Value::Volume(v));
@@ -38,7 +38,7 @@ fn put_usage(v: Hundredths, writer: &mut TextWriter<'_>)
 
 // Why there is no step.
 fn put_refusal(refusal: Refusal, writer: &mut TextWriter<'_>)
-    requires { HasRoom 74 writer.old }
+    requires { HasHeadroom 74 writer.old }
     ensures { Appended (step_status (Err refusal)) 74 writer.old writer.new }
 {
     match refusal {
@@ -52,7 +52,7 @@ fn put_refusal(refusal: Refusal, writer: &mut TextWriter<'_>)
 
 // The step.
 fn put_step(step: Result<StepPrice, Refusal>, writer: &mut TextWriter<'_>)
-    requires { HasRoom 74 writer.old }
+    requires { HasHeadroom 74 writer.old }
     ensures { Appended (step_status step) 74 writer.old writer.new }
 {
     match step {
@@ -67,7 +67,7 @@ fn put_step(step: Result<StepPrice, Refusal>, writer: &mut TextWriter<'_>)
 
 // The valve and the mark, a line each.
 fn put_valve(v: Valve, writer: &mut TextWriter<'_>)
-    requires { HasRoom 47 writer.old }
+    requires { HasHeadroom 47 writer.old }
     ensures { Appended (valve_status v) 47 writer.old writer.new }
 {
     writer.either(v.opened, b"valve open\n", b"valve closed\n");
@@ -76,7 +76,7 @@ fn put_valve(v: Valve, writer: &mut TextWriter<'_>)
 
 // The open day, of the clock's date.
 fn put_day(date: u32, t: OpenPeriod, writer: &mut TextWriter<'_>)
-    requires { HasRoom 103 writer.old }
+    requires { HasHeadroom 103 writer.old }
     ensures { Appended (day_status date t) 103 writer.old writer.new }
 {
     if date == 0 {
@@ -89,10 +89,10 @@ fn put_day(date: u32, t: OpenPeriod, writer: &mut TextWriter<'_>)
     writer.word(b" yuan\n");
 }
 
-// A meter in plain words and units. For the room that it asks, see `text_writer::LINE_ROOM`.
+// A meter in plain words and units. For the length that it asks, see `text_writer::MOST_LINE`.
 pub fn status(m: &Meter, out: &mut [u8]) -> usize
-    requires { line_room ≤ length out.old }
-    ensures { Written (status_lines (state_in m.now)) line_room out.old result out.new }
+    requires { most_line ≤ length out.old }
+    ensures { Written (status_lines (state_in m.now)) most_line out.old result out.new }
 {
     let r = m.machine.registers;
     let mut writer = TextWriter::new(out);

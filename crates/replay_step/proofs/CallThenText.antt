@@ -8,7 +8,7 @@ use Rattle.audited_meter.specs.declared.AuditedMeter.{AuditedMeter}
 use Rattle.audited_meter.specs.declared.CallResult.{CallResult}
 use Rattle.text.specs.Decimal.{starting_with}
 use Rattle.text.specs.Written.{Written}
-use Rattle.text_writer.specs.TextWriter.{line_room}
+use Rattle.text_writer.specs.TextWriter.{most_line}
 use Rattle.std.specs.Prelude.{Result}
 use Rattle.replay_parser.specs.declared.Fault.{Fault}
 use Rattle.replay_parser.specs.declared.Request.{Request}
@@ -17,7 +17,7 @@ use Rattle.replay_step.specs.ReplayStep.{called_by, ReplyIs, Answered, audited_a
 use Rattle.replay_step.proofs.RecordOfLine.{kept}
 
 -- a text that is written and is what it should be
-pub answer : {Is : List ℕ → Type 0} {text out after : List ℕ} {r : ℕ} → Written text line_room out r after → Is text → Answered Is out r after
+pub answer : {Is : List ℕ → Type 0} {text out after : List ℕ} {r : ℕ} → Written text most_line out r after → Is text → Answered Is out r after
 answer {text = text} w s = record { text = text; holds = s; written = w }
 
 pub replayed : (d : AuditedMeter) (number : ℕ) (line scratch₀ : List ℕ) {o : Result Request Fault} {scratch : List ℕ} {p : CallResult}

@@ -17,7 +17,7 @@ use Rattle.replay_parser.specs.declared.Request.TheVariants.{Nothing, Call, Quer
 use Rattle.replay_parser.specs.declared.Query.{Query as Queried}
 use Rattle.replay_parser.specs.declared.Query.TheVariants.{Step, Display, Record, Heavy}
 use Rattle.text.specs.Written.{Written}
-use Rattle.text_writer.specs.TextWriter.{line_room}
+use Rattle.text_writer.specs.TextWriter.{most_line}
 use Rattle.replay_replies.specs.Lines.{call_line, step_line, display_line, record_line, heavy_line}
 use Rattle.replay_replies.specs.Errors.{error_line}
 use Rattle.replay_status.specs.Status.{status_lines}
@@ -54,7 +54,7 @@ ReplyIs m number (Err k) done text = text ≡ error_line number k
 pub record Answered (Is : List ℕ → Type 0) (out : List ℕ) (r : ℕ) (after : List ℕ) : Type 0 where
   pub text : List ℕ
   pub holds : Is text
-  pub written : Written text line_room out r after
+  pub written : Written text most_line out r after
 
 -- the audited meter after a line
 abbrev pub audited_after : AuditedMeter → Result Request Fault → List ℕ → AuditedMeter

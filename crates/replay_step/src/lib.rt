@@ -3,7 +3,7 @@
 
 ghost use Rattle.std.specs.Prelude.{◌≡◌, ◌*◌, ◌≤◌, length, take};
 ghost use Rattle.text.specs.Decimal.{starting_with};
-ghost use Rattle.text_writer.specs.TextWriter.{line_room};
+ghost use Rattle.text_writer.specs.TextWriter.{most_line};
 ghost use Rattle.replay_parser.specs.Requests.{request_of, record_of};
 ghost use Rattle.meter.specs.Machine.{state_in};
 ghost use Rattle.replay_step.specs.ReplayStep.{no_call, called_by, QueryReplyIs, ReplyIs, Answered, audited_after, Answers, size_of};
@@ -43,11 +43,11 @@ fn called(audited: AuditedMeter, request: Result<Request, Fault>, scratch: &[u8]
     }
 }
 
-// The answer to a question on the meter. For the room that this and the two below ask, see
-// `text_writer::LINE_ROOM`; a meter and a line's buffer meet here alone.
+// The answer to a question on the meter. For the length that this and the two below ask, see
+// `text_writer::MOST_LINE`; a meter and a line's buffer meet here alone.
 #[tactic(auto, unfolding(crate::specs::ReplayStep::QueryReplyIs))]
 fn queried(m: &Meter, q: Query, out: &mut [u8]) -> usize
-    requires { line_room ≤ length out.old }
+    requires { most_line ≤ length out.old }
     ensures { Answered (QueryReplyIs (state_in m.now) q) out.old result out.new }
 {
     match q {
@@ -67,7 +67,7 @@ fn answered(
     done: Result<Codes, Refusal>,
     out: &mut [u8],
 ) -> usize
-    requires { line_room ≤ length out.old }
+    requires { most_line ≤ length out.old }
     ensures { Answered (ReplyIs (state_in m.now) number request done) out.old result out.new }
 {
     match request {
@@ -89,7 +89,7 @@ pub fn replay_line(
     out: &mut [u8],
 ) -> Replayed
     requires line_len_bound { length line.now ≤ 2 * length scratch.old }
-    requires in_bounds { line_room ≤ length out.old }
+    requires in_bounds { most_line ≤ length out.old }
     ensures audited_value { result.audited ≡ audited_after audited (request_of line.now) (record_of line.now) }
     ensures scratch_after { scratch.new ≡ starting_with (record_of line.now) scratch.old }
     ensures answered { Answered (Answers audited number (request_of line.now) (record_of line.now)) out.old result.length out.new }

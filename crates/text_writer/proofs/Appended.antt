@@ -24,7 +24,7 @@ pub in-part : {m n : ℕ} {text part : List ℕ} {p q : TextWriter} → Written 
 unfolding behind
 in-part {part = part} {p = p} w l e = rw e (record {
   same_reference = refl;
-  same_room = rw same_len_mid refl;
+  same_length = rw same_len_mid refl;
   used = rw w.count;
   few = omega arith;
   buffer = part-put p.used p.buffer.now part ∙ rw (w.buffer, part-is);
@@ -34,7 +34,7 @@ pub nothing : (p : TextWriter) → Appended [] 0 p p
 unfolding starting_with behind
 nothing p = record {
   same_reference = refl;
-  same_room = refl;
+  same_length = refl;
   used = omega arith;
   few = omega arith;
   buffer = sym (take-append-drop p.used p.buffer.now);
@@ -42,7 +42,7 @@ nothing p = record {
 
 -- the bound may be larger, and the text another that is the same
 pub within : {t a : List ℕ} {m n : ℕ} {p q : TextWriter} → t ≡ a → m ≤ n → Appended a m p q → Appended t n p q
-within e h w = rw e (record { same_reference = w.same_reference; same_room = w.same_room; used = w.used; few = omega arith; buffer = w.buffer })
+within e h w = rw e (record { same_reference = w.same_reference; same_length = w.same_length; used = w.used; few = omega arith; buffer = w.buffer })
 
 -- the buffer before the place behind a text, and from there on
 module _ (at : ℕ) (a d : List ℕ) (h : at ≤ length d) where
@@ -79,7 +79,7 @@ joined at a b d =
 pub then : {a b : List ℕ} {m n : ℕ} {p q r : TextWriter} → Appended a m p q → Appended b n q r → Appended (a ++ b) (m + n) p r
 then {a} {b} {p = p} f g = record {
   same_reference = cc;
-  same_room = cc;
+  same_length = cc;
   used = rw (g.used, f.used, length-append) (omega arith);
   few = omega arith;
   buffer = rw (g.buffer, f.used, f.buffer) (joined p.used a b p.buffer.now);

@@ -3,14 +3,14 @@
 
 ghost use Rattle.std.specs.Prelude.{◌≡◌, cond, [], ◌∷◌, ◌++◌, ◌+◌, ◌≤◌, length};
 ghost use Rattle.text.specs.Written.{Written};
-ghost use Rattle.text_writer.specs.TextWriter.{HasRoom, Appended};
+ghost use Rattle.text_writer.specs.TextWriter.{HasHeadroom, Appended};
 ghost use Rattle.text_writer.specs.Value.{fixed, value_text};
 
 use units::{Charge, Hundredths, Millionths, Shown, Signed, TenThousandths};
 
-// The most bytes of one line, `line_room` in contracts. Each function that puts lines asks that its
-// buffer has this room: an array of so many bytes would shut out longer buffers.
-pub const LINE_ROOM: usize = 320;
+// The most bytes of one line, `most_line` in contracts. Each function that puts lines asks that its
+// buffer is as long: an array of so many bytes would shut out longer buffers.
+pub const MOST_LINE: usize = 320;
 
 // A number in a line: plain; in hexadecimal; a balance or a display as the number of its units, with
 // a sign; a volume in cubic metres with two decimals; a price with four or a charge with six in yuan.
@@ -82,7 +82,7 @@ impl<'a> TextWriter<'a> {
 
     // A word.
     pub fn word(&mut self, w: &[u8])
-        requires { HasRoom (length w.now) self.old }
+        requires { HasHeadroom (length w.now) self.old }
         ensures { Appended w.now (length w.now) self.old self.new }
     {
         self.used += text::put_bytes(w, &mut self.buffer[self.used..]);
@@ -90,14 +90,14 @@ impl<'a> TextWriter<'a> {
 
     // The first word where the flag holds, else the second.
     pub fn either(&mut self, flag: bool, yes: &[u8], no: &[u8])
-        requires { HasRoom (length yes.now + length no.now) self.old }
+        requires { HasHeadroom (length yes.now + length no.now) self.old }
         ensures { Appended (cond flag yes.now no.now) (length yes.now + length no.now) self.old self.new }
     {
         self.word(if flag { yes } else { no });
     }
 
     fn value(&mut self, v: Value)
-        requires { HasRoom 27 self.old }
+        requires { HasHeadroom 27 self.old }
         ensures { Appended (value_text v) 27 self.old self.new }
     {
         self.used += v.put(&mut self.buffer[self.used..]);
@@ -105,7 +105,7 @@ impl<'a> TextWriter<'a> {
 
     // A word and a number behind it.
     pub fn item(&mut self, w: &[u8], v: Value)
-        requires { HasRoom (length w.now + 27) self.old }
+        requires { HasHeadroom (length w.now + 27) self.old }
         ensures { Appended (w.now ++ value_text v) (length w.now + 27) self.old self.new }
     {
         self.word(w);
@@ -114,7 +114,7 @@ impl<'a> TextWriter<'a> {
 
     // A number and one byte behind it, a space or a newline.
     pub fn number(&mut self, v: Value, after: u8)
-        requires { HasRoom 28 self.old }
+        requires { HasHeadroom 28 self.old }
         ensures { Appended (value_text v ++ (after ∷ [])) 28 self.old self.new }
     {
         self.value(v);

@@ -1,4 +1,4 @@
--- What was read is at most the buffer, so that its lines have room.
+-- What was read is at most the buffer, so that its lines fit.
 use Rattle.std.proofs.Common.{length-take, arith}
 use Rattle.plan_line.specs.Records.{records_in}
 use Rattle.plan_printer.proofs.print_some.Goals as goal
