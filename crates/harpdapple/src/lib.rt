@@ -140,9 +140,15 @@ impl From<Result<Plan, Refusal>> for PlanReply {
 
     #[tactic(auto, unfolding(crate::specs::Replies::plan_reply_of))]
     fn from(answer: Result<Plan, Refusal>) -> PlanReply {
-        PlanReply {
-            acceptance: Acceptance::from(answer),
-            plan: answer.unwrap_or(Plan::none()),
+        match answer {
+            Ok(plan) => PlanReply {
+                acceptance: Acceptance::from(Ok::<(), Refusal>(())),
+                plan,
+            },
+            Err(refusal) => PlanReply {
+                acceptance: Acceptance::from(Err::<(), Refusal>(refusal)),
+                plan: Plan::none(),
+            },
         }
     }
 }
