@@ -118,7 +118,12 @@ pub fn is_hex(w: &[u8]) -> bool
 fn digit_value(x: u8) -> u8
     ensures { (result ≡ digit_value x) × (result < 16) }
 {
-    char::from(x).to_digit(16).unwrap_or(0) as u8
+    match x {
+        b'0'..=b'9' => x - b'0',
+        b'A'..=b'F' => x - b'A' + 10,
+        b'a'..=b'f' => x - b'a' + 10,
+        _ => 0,
+    }
 }
 
 #[tactic(auto, unfolding(crate::specs::Hex::pair_at))]
