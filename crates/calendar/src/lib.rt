@@ -190,6 +190,13 @@ pub fn cycle_start(cycle: Cycle, d: u32) -> u32
     }
 }
 
+// The same by the cycle word as a record has it, any number: one that names no calendar cycle has 0.
+pub fn cycle_start_of_word(word: u8, d: u32) -> u32
+    ensures { result ≡ cycle_start (cycle_named word) d }
+{
+    cycle_start(Cycle::from(word), d)
+}
+
 // Which run of n days from `first` a date lies in: 0 before it, then 1, 2, ..; runs of 0 days are one.
 #[tactic(auto, unfolding(crate::specs::Cycle::run_of), using(crate::proofs::Lengths::runs))]
 pub fn run_of(first: u32, n: u32, d: u32) -> u32
