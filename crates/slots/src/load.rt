@@ -32,6 +32,19 @@ impl Slots {
         Ok((slot, plan))
     }
 
+    // The same refusals of any slot number and any reading, wherever the plan was read.
+    #[tactic(auto, unfolding(crate::specs::Load::load_refusal))]
+    pub fn load_refusal(
+        self,
+        d: u32,
+        slot: u32,
+        reading: Result<Plan, Refusal>,
+    ) -> Result<(), Refusal>
+        ensures { result ≡ load_refusal real self d slot reading }
+    {
+        self.in_force_refusal(d, SlotName::try_from(slot)?, reading?)
+    }
+
     // The plan put into the slot.
     #[tactic(auto, unfolding(crate::specs::Load::loaded))]
     pub fn loaded(self, slot: SlotName, plan: Plan) -> Slots
@@ -43,5 +56,12 @@ impl Slots {
             slot_2: slot.pick(self.slot_2, held),
             ..self
         }
+    }
+
+    // The same by the slot's number: slot 1 by 1, slot 2 by any other.
+    pub fn loaded_by_number(self, slot: u32, plan: Plan) -> Slots
+        ensures { result ≡ loaded self (slot_named slot) plan }
+    {
+        self.loaded(SlotName::try_from(slot).unwrap_or(SlotName::Two), plan)
     }
 }
