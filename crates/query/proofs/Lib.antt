@@ -1,2 +1,3 @@
 pub mod WithinBounds
 pub mod SumOfVolumes
+pub mod SumRecordByRecord
