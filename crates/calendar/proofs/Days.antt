@@ -1,4 +1,4 @@
--- What a real date is, part by part, and that day numbers follow the order of the dates. Only `all-years` sees the leap rule. Assumes nothing.
+-- What a real date is, part by part, and that day numbers follow the order of the dates. None of it sees the leap rule. Assumes nothing.
 use mathlib.Core.Path.{◌≡◌}
 use mathlib.Core.Bool.{true}
 use Prim.Native.Nat.{ℕ, zero, suc, ◌+◌, ◌-◌, ◌≤◌, ◌<◌}
