@@ -4,7 +4,7 @@
 // it put only where it answers Ok, and of a lent slice nothing.
 #![tactic(auto)]
 
-ghost use Rattle.std.specs.Prelude.{◌≡◌, [], ◌∷◌, ◌++◌, ◌*◌, ◌^◌, ◌≤◌, ◌<◌, length};
+ghost use Rattle.std.specs.Prelude.{◌≡◌, ℕ, [], ◌∷◌, ◌++◌, ◌*◌, ◌^◌, ◌≤◌, ◌<◌, length};
 ghost use Rattle.text.specs.Decimal.{glyph, digits_of, decimal, signed, spaced};
 ghost use Rattle.text.specs.Hex.{hexadecimal};
 ghost use Rattle.text.specs.Written.{Written};
@@ -21,16 +21,41 @@ fn glyph_of(d: u64) -> u8
     }
 }
 
+// A base, as a type: so the compiler knows the divisor, and no digit takes a division. A const parameter would be
+// plainer, but with one alone the kit does not prove the recursion below.
+trait Base {
+    ghost NUMBER: { ℕ };
+
+    const NUMBER: u64;
+}
+
+struct Ten;
+
+struct Sixteen;
+
+impl Base for Ten {
+    ghost NUMBER = { 10 };
+
+    const NUMBER: u64 = 10;
+}
+
+impl Base for Sixteen {
+    ghost NUMBER = { 16 };
+
+    const NUMBER: u64 = 16;
+}
+
 // A number in a base, of at most `most` digits: the digits of its quotient, and behind them the last one.
-fn put_digits(base: u64, most: usize, x: u64, out: &mut [u8]) -> usize
-    requires { (2 ≤ base) × (base ≤ 16) × (1 ≤ most) × (x < base ^ most) × (most ≤ length out.old) }
-    ensures { Written (digits_of base most x) most out.old result out.new }
+fn put_digits<B: Base>(most: usize, x: u64, out: &mut [u8]) -> usize
+    requires { (2 ≤ B.NUMBER) × (B.NUMBER ≤ 16) × (1 ≤ most) × (x < B.NUMBER ^ most) × (most ≤ length out.old) }
+    ensures { Written (digits_of B.NUMBER most x) most out.old result out.new }
 {
+    let base = B::NUMBER;
     if x < base {
         out[0] = glyph_of(x);
         return 1;
     }
-    let n = put_digits(base, most - 1, x / base, out);
+    let n = put_digits::<B>(most - 1, x / base, out);
     out[n] = glyph_of(x % base);
     n + 1
 }
@@ -41,7 +66,7 @@ pub fn put_decimal(x: u64, out: &mut [u8]) -> usize
     requires { 20 ≤ length out.old }
     ensures { Written (decimal x) 20 out.old result out.new }
 {
-    put_digits(10, 20, x, out)
+    put_digits::<Ten>(20, x, out)
 }
 
 // The same with a minus sign before it where it is negative. The sign stands beside the size, as
@@ -63,7 +88,7 @@ pub fn put_hex(x: u32, out: &mut [u8]) -> usize
     requires { 8 ≤ length out.old }
     ensures { Written (hexadecimal x) 8 out.old result out.new }
 {
-    put_digits(16, 8, u64::from(x), out)
+    put_digits::<Sixteen>(8, u64::from(x), out)
 }
 
 // The bytes of a word.
