@@ -16,7 +16,7 @@ use Rattle.records.specs.Words.{balance_of, balance_word, record_words, record_f
 use Rattle.records.specs.Moves.{pushed}
 
 -- a balance is read again from its word
-read_back : (z : ℤ) → mag z < 2 ^ 63 → balance_of (balance_word z) ≡ z
+pub read_back : (z : ℤ) → mag z < 2 ^ 63 → balance_of (balance_word z) ≡ z
 read_back (pos n) h = to_z-of_z w64 (pos n) (record { sfits = h })
 read_back (negsuc n) h = to_z-of_z w64 (negsuc n) (record { sfits = h })
 

@@ -28,7 +28,7 @@ shelf_long Day h = held-long day_place h
 shelf_long Month h = held-long month_place h
 
 -- record k begins three words behind the one before it
-row_at : (h : List ℕ) (from n k : ℕ) → k < n → record_at h (from + 3 * k + 1) ≡ get_or (rows h (from + 1) n) k no_record
+pub row_at : (h : List ℕ) (from n k : ℕ) → k < n → record_at h (from + 3 * k + 1) ≡ get_or (rows h (from + 1) n) k no_record
 unfolding rows
 row_at h from zero k p = absurd (omega arith)
 row_at h from (suc n) zero p = let e : from + 3 * 0 + 1 ≡ from + 1 = omega arith in rw e
