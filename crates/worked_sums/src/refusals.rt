@@ -100,18 +100,29 @@ fn settings(c: &mut Count) -> io::Result<()> {
     ])
 }
 
-// The questions on a fresh meter.
+// The refusals of the questions on a fresh meter.
+fn step() -> Option<Refusal> {
+    query::step(&Fresh.meter()).err()
+}
+
+fn day() -> Option<Refusal> {
+    query::record(&Fresh.meter(), Shelf::Day, 0).err()
+}
+
+fn month() -> Option<Refusal> {
+    query::record(&Fresh.meter(), Shelf::Month, 0).err()
+}
+
+fn heavy() -> Option<Refusal> {
+    query::heavy(&Fresh.meter(), Hundredths(0)).err()
+}
+
 fn queries(c: &mut Count) -> io::Result<()> {
-    let m = Fresh.meter();
-    let step = query::step(&m).err();
-    c.say_refused(step, Refusal::NoPlan, "the step with no plan")?;
-    let day = query::record(&m, Shelf::Day, 0).err();
-    c.say_refused(day, Refusal::NotHeld, "a day record that is not held")?;
-    let month = query::record(&m, Shelf::Month, 0).err();
-    c.say_refused(month, Refusal::NotHeld, "a month record that is not held")?;
-    let heavy = query::heavy(&m, Hundredths(0)).err();
+    c.say_refused(step(), Refusal::NoPlan, "the step with no plan")?;
+    c.say_refused(day(), Refusal::NotHeld, "a day record that is not held")?;
+    c.say_refused(month(), Refusal::NotHeld, "a month record that is not held")?;
     c.say_refused(
-        heavy,
+        heavy(),
         Refusal::NoHeavyDay,
         "a heavy day where no day is held",
     )
