@@ -8,10 +8,9 @@ ghost use Rattle.text.specs.Decimal.{starting_with};
 ghost use Rattle.replay_parser.specs.Faults.{form_in};
 ghost use Rattle.replay_parser.specs.Requests.{stamp_in, request_for, record_by, request_of, record_of};
 
-pub use forms::{Form, Kind};
-
 use calendar::Stamp;
 use forms::form_of;
+pub use forms::{Form, Kind};
 use meter::{Alarms, Call, Command, Key, Load, Pulses, Recharge, Tick};
 use records::Shelf;
 use refusal::need;
